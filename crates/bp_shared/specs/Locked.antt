@@ -11,6 +11,9 @@ use Rattle.bp_session_log.specs.declared.pending.Fix.{Fix as Fixing}
 use Rattle.bp_session_log.specs.declared.pending.Flush.{Flush as Flushing}
 use Rattle.bp_session_log.specs.Causes.{Looks, AsksFix, AsksFlush}
 use Rattle.bp_session_log.specs.Rings.{RingView, DrainsRings}
+use Rattle.bp_shared.specs.Sessions.{SessionValue}
+use Rattle.bp_shared.specs.Posting.{TakesBack}
+use Rattle.bp_shared.specs.Telling.{IsListOf}
 
 -- no pool's parameters
 abbrev pub no_parameters : Parameters
@@ -53,6 +56,15 @@ pub record Drained (old new : LockedValue) : Type 0 where
 -- the rings were drained, and nothing was done since
 abbrev pub IsDrained : LockedValue → Type 0
 IsDrained state = (was : LockedValue) × Drained was state
+
+-- a section of a session has begun: the rings were drained, then the session's own once more, with
+-- both its ends at hand; so the trail's entries of the client are the session's list
+pub record Enters (start : Trail) (session : SessionValue) (state : LockedValue) : Type 0 where
+  pub was : LockedValue
+  pub mid : LockedValue
+  pub drained : Drained was mid
+  pub takes : TakesBack session.client mid.core state.core
+  pub list_is : IsListOf start state.core.past session.client session.said
 
 -- the core did what the event says, and the trail and the list got the same entries
 pub record InStep (Event : CoreView → CoreView → Type 0) (old : LockedValue) (said : Trail)

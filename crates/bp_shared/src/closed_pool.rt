@@ -31,9 +31,8 @@ impl<N: PoolName, K: ListKeeper> Model for ClosedPool<N, K> {
 impl<N: PoolName, K: ListKeeper> ClosedPool<N, K> {
     ghost use Rattle.std.specs.Prelude.{◌≡◌, ◌≤◌};
     ghost use Rattle.bp_trail.specs.Clock.{durable};
-    ghost use Rattle.bp_session_log.specs.Books.{unfixes};
-    ghost use Rattle.bp_shared.specs.Posting.{IsUnfixedBy, TakesBack};
-    ghost use Rattle.bp_shared.specs.Telling.{GoesOnFrom, IsToldBy};
+    ghost use Rattle.bp_shared.specs.Posting.{TakesBack};
+    ghost use Rattle.bp_shared.specs.Telling.{GoesOnFrom, IsListOf};
 
     /// Makes a closed pool of a state that nobody else has.
     pub(crate) fn new(mark: Mark, state: LockedPool<N, K>) -> ClosedPool<N, K>
@@ -45,13 +44,12 @@ impl<N: PoolName, K: ListKeeper> ClosedPool<N, K> {
 
     /// Ends a session and returns its book, as [`Session::into_book`] does. It takes no memory.
     ///
-    /// The session's list and the core's trail since the pool was made have the same entries of its client, in the same
-    /// order, except for unfixes: a pass is posted at once, and goes back when its ring is next drained. The passes
-    /// that went back are those that the client posted, all of them and no other, in that order. What still waits in
-    /// the session's ring goes back here, and the core does nothing else: no end adds to another client's entries.
+    /// The core's entries of the client since the pool was made are the session's list: the same entries in the same
+    /// order, each unfix in its place. What still waits in the session's ring goes back here, and the core does nothing
+    /// else: no end adds to another client's entries.
     ///
     /// What the session saw of the trail is the older part of it: so the answers of `next_unsaved`, `redo_from` and
-    /// `stats` hold of a trail that the pool had, with all entries of the client until then, except unfixes.
+    /// `stats` hold of a trail that the pool had, with all entries of the client until then.
     ///
     /// So this core gave each answer that the list has, the client has no other entry, and a page is pinned while its
     /// client's list holds a pass of it. Nothing is promised of a refusal that adds no entry.
@@ -61,8 +59,7 @@ impl<N: PoolName, K: ListKeeper> ClosedPool<N, K> {
         ensures before { result.before ≡ session.before }
         ensures said { result.said ≡ session.said }
         ensures seen { GoesOnFrom session.seen self.new.past }
-        ensures theirs { IsToldBy N.past self.new.past session.client session.said }
-        ensures posted { IsUnfixedBy N.past self.new.past session.client (unfixes session.said) }
+        ensures theirs { IsListOf N.past self.new.past session.client session.said }
     {
         self.state.end_session(session)
     }

@@ -9,11 +9,14 @@ ghost use Rattle.bp_session_log.specs.Books.{unfixes};
 ghost use Rattle.bp_shared.specs.FlushAll.{FlushedAll, Pool, Reaches};
 ghost use Rattle.bp_shared.specs.Posting.{held_by, IsUnfixedBy};
 ghost use Rattle.bp_shared.specs.Sessions.{SessionValue};
-ghost use Rattle.bp_shared.specs.Telling.{IsToldBy};
+ghost use Rattle.bp_shared.specs.Telling.{IsListOf, IsToldBy};
 
 /// A page whose pass a client holds is pinned in the trail that the lock has. A pass that the client's list was given
 /// and did not give back is out there; so its page has a pin, and does not leave.
 pub fn held_pages_are_pinned()
+    ensures listed { (start past : Trail) (client : ℕ) (said : Trail)
+        → IsListOf start past client said → IsToldBy start past client said
+        × IsUnfixedBy start past client (unfixes said) }
     ensures out { (c : Parameters) (start past : Trail) (client : ℕ) (said : Trail) (g : Grant)
         → Legal c past → IsToldBy start past client said →
         IsUnfixedBy start past client (unfixes said) →

@@ -4,10 +4,9 @@
 //! is done outside the lock (Gray and Reuter, chapter 13). A pass goes back through the session's own ring, with no
 //! lock.
 //!
-//! The lists of the sessions are bound to the trail of the core, whether some memory has them or not: when a session
-//! ends at a [`ClosedPool`], its list and the trail since the pool was made have the same entries of its client, in the
-//! same order. An unfix may stand at another place in the two: so unfixes are compared by themselves, and are the same,
-//! in the same order.
+//! The lists of the sessions are bound to the trail of the core, whether some memory has them or not: each
+//! critical section of a session first takes back what the session posted, so the trail's entries of the client are then
+//! the session's list: all of it, each unfix in its place. So they are when a session ends at a [`ClosedPool`].
 #![tactic(auto)]
 
 pub mod closed_pool;

@@ -28,7 +28,7 @@ pub(crate) struct LockedPool<N: PoolName, K: ListKeeper> {
     ends: u64,
     /// The ring's end at which pieces of the trail go in.
     pieces: Producer<Vec<Entry>>,
-    /// The entries of each session's list, except unfixes.
+    /// Each session's list, as it was in the session's last critical section.
     board: Board,
     /// The trail as each session saw it last.
     seen: Board,
@@ -61,15 +61,14 @@ impl<N: PoolName, K: ListKeeper> Model for LockedPool<N, K> {
 }
 
 impl<N: PoolName, K: ListKeeper> LockedPool<N, K> {
-    ghost use Rattle.std.specs.Prelude.{◌≡◌, ◌<◌, ◌≤◌, [], true, All, map, length, reverse, slice_index_or};
+    ghost use Rattle.std.specs.Prelude.{◌≡◌, ◌≤◌, [], All, map, length};
     ghost use Rattle.rtrb.specs.Ring.{sent, received};
     ghost use Rattle.bp_trail.specs.Clock.{durable};
-    ghost use Rattle.bp_session_log.specs.Books.{unfixes, all_held};
     ghost use Rattle.bp_session_log.specs.Rings.{ring_view, ring_of, ring_at};
-    ghost use Rattle.bp_shared.specs.Posting.{IsUnfixedBy, TakesBack};
+    ghost use Rattle.bp_shared.specs.Posting.{TakesBack};
     ghost use Rattle.bp_shared.specs.Locked.{Drained};
     ghost use Rattle.bp_shared.specs.Taking.{IsEmptied};
-    ghost use Rattle.bp_shared.specs.Telling.{AreEarlier, GoesOnFrom, IsShown, IsToldBy};
+    ghost use Rattle.bp_shared.specs.Telling.{AreEarlier, GoesOnFrom, IsListOf, IsShown};
 
     /// Makes the locked state of a core, whose rings gave nothing yet.
     pub(crate) fn new(
@@ -121,49 +120,45 @@ impl<N: PoolName, K: ListKeeper> LockedPool<N, K> {
         drain_all(&mut self.core, &mut self.consumers, asked);
     }
 
-    /// Gives each pass back that waits in the client's own ring. Each of them is out: the list gave it back while it
-    /// held it.
-    fn drain_own(&mut self, book: &Book<K>, producer: &mut Producer<PassNote>)
-        requires client_in { book.now.client < N.parameters.clients }
-        requires ring { slice_index_or N.ring.rings book.now.client (ring_of producer.old)
-            ≡ ring_of producer.old }
-        requires sent { sent producer.old ≡ reverse (unfixes book.now.said) }
-        requires held { all_held book.now.said ≡ true }
-        requires theirs { IsToldBy N.past self.old.core.past book.now.client book.now.said }
-        ensures takes { TakesBack book.now.client self.old.core self.new.core }
-        ensures theirs { IsToldBy N.past self.new.core.past book.now.client book.now.said }
-        ensures posted { IsUnfixedBy N.past self.new.core.past book.now.client
-            (unfixes book.now.said) }
+    /// Begins a session's critical section: gives each pass back that waits in the session's own ring, and writes its
+    /// list on its line. Each of the passes is out, since the list gave it back while it held it. So the trail's entries
+    /// of the client are the session's list.
+    pub(crate) fn drain_own(&mut self, session: &mut Session<N, K>)
+        ensures takes { TakesBack session.old.client self.old.core self.new.core }
+        ensures seen { self.new.seen ≡ self.old.seen }
+        ensures ends { self.new.ends ≡ self.old.ends }
+        ensures session { session.new ≡ record session.old { free = session.new.free } }
+        ensures free { session.old.free ≤ session.new.free }
+        ensures list { IsListOf N.past self.new.core.past session.old.client session.old.said }
     {
-        let client = usize::from(book.client());
+        let client = usize::from(session.client());
         let consumer = &mut self.consumers[client];
-        let waiting = consumer.slots_beside(producer);
+        let waiting = consumer.slots_beside(&mut session.producer);
         drain_known(&mut self.core, client, consumer, waiting);
         self.core.keeps_the_rules();
+        self.board
+            .write::<Book<K>, Told>(&mut session.line, &session.book);
     }
 
-    /// Ends a session and returns its book. The passes that it posted have gone back then, and its list has the same
-    /// entries of its client as the trail.
-    pub(crate) fn end_session(&mut self, session: Session<N, K>) -> Book<K>
+    /// Ends a session and returns its book. The passes that it posted have gone back then, and the trail's entries of
+    /// the client are its list.
+    pub(crate) fn end_session(&mut self, mut session: Session<N, K>) -> Book<K>
         ensures takes { TakesBack session.client self.old.core self.new.core }
         ensures client { result.client ≡ session.client }
         ensures before { result.before ≡ session.before }
         ensures said { result.said ≡ session.said }
         ensures seen { GoesOnFrom session.seen self.new.core.past }
-        ensures theirs { IsToldBy N.past self.new.core.past session.client session.said }
-        ensures posted { IsUnfixedBy N.past self.new.core.past session.client
-            (unfixes session.said) }
+        ensures theirs { IsListOf N.past self.new.core.past session.client session.said }
     {
+        self.drain_own(&mut session);
         let Session {
             book,
-            mut producer,
-            mut line,
+            producer: _,
+            line: _,
             mut seen,
             of: _,
         } = session;
-        self.board.write::<Book<K>, Told>(&mut line, &book);
         self.seen.write::<PoolCore<K>, Past>(&mut seen, &self.core);
-        self.drain_own(&book, &mut producer);
         book
     }
 

@@ -163,7 +163,7 @@ impl<N: PoolName, K: ListKeeper> SharedPool<N, K> {
     ghost use Rattle.std.specs.Sync.Mutex.{mutex_guard_value};
     ghost use Rattle.bp_page.specs.declared.refusals.Refusal.TheVariants as Refusal;
     ghost use Rattle.bp_trail.specs.Clock.{durable};
-    ghost use Rattle.bp_shared.specs.Locked.{IsDrained};
+    ghost use Rattle.bp_shared.specs.Locked.{Enters};
     ghost use Rattle.bp_shared.specs.Sessions.{new_sessions, UnfixSaid};
     ghost use Rattle.bp_shared.specs.Telling.{GoesOnFrom};
 
@@ -282,13 +282,20 @@ impl<N: PoolName, K: ListKeeper> SharedPool<N, K> {
     }
 
     /// Takes the lock, and drains the rings that clients announced, and those in which a pass is known to wait. The
-    /// critical section of each event begins so.
-    fn lock_and_drain<R: Wait>(&self, rt: &R) -> MutexGuard<'_, LockedPool<N, K>>
-        ensures { IsDrained (mutex_guard_value result) }
+    /// critical section of each event begins so. Then all that the session posted has gone back.
+    fn lock_and_drain<R: Wait>(
+        &self,
+        rt: &R,
+        session: &mut Session<N, K>,
+    ) -> MutexGuard<'_, LockedPool<N, K>>
+        ensures session { session.new ≡ record session.old { free = session.new.free } }
+        ensures free { session.old.free ≤ session.new.free }
+        ensures entered { Enters N.past session.new (mutex_guard_value result) }
     {
         let mut state = locked(rt, &self.state);
         let asked = self.posted.take();
         state.drain(asked);
+        state.drain_own(session);
         state
     }
 

@@ -10,13 +10,11 @@ use rtrb::Producer;
 use std::alloc::Global;
 use std::marker::{Model, PhantomData};
 
-/// The list of a book as it stands on a pool's board: its entries, except unfixes.
+/// The list of a book as it stands on a pool's board.
 pub(crate) struct Told;
 
 impl<K: ListKeeper> Shows<Book<K>> for Told {
-    ghost use Rattle.bp_shared.specs.Telling.{told};
-
-    ghost shown = { λ book. told book.said };
+    ghost shown = { λ book. book.said };
 }
 
 /// The trail of a core as it stands on a pool's board of what its sessions saw.
@@ -66,7 +64,7 @@ impl<N: PoolName, K: ListKeeper> Model for Session<N, K> {
     } };
 
     // The ring is the client's; the passes posted are those of the list's own unfixes, in order, each of which the list
-    // held; the line has the other entries of the list.
+    // held; the line has the list as it was in the last section.
     ghost invariant = { λ s. (s.book.client < N.parameters.clients)
         × (s.book.size ≡ N.parameters.size)
         × (sent s.producer ≡ reverse (unfixes s.book.said))

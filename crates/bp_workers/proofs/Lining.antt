@@ -10,11 +10,9 @@ use Rattle.bp_trail.specs.Trail.{Trail}
 use Rattle.bp_trail.specs.Clients.{of_client}
 use Rattle.bp_core.specs.CoreView.{CoreView}
 use Rattle.bp_shared.specs.Sessions.{SessionValue, new_session, new_sessions}
-use Rattle.bp_shared.specs.Telling.{told, GoesOnFrom}
-use Rattle.bp_shared.proofs.Telling.{told_whole, told_taken_back, goes_on_taken}
-use Rattle.bp_session_log.specs.Books.{unfixes}
-use Rattle.bp_shared.specs.Posting.{unfixed, TakesBack}
-use Rattle.bp_shared.proofs.Posting.{unfixed_whole, unfixed_still}
+use Rattle.bp_shared.specs.Telling.{GoesOnFrom}
+use Rattle.bp_shared.proofs.Telling.{listed_whole, listed_taken_back, goes_on_taken}
+use Rattle.bp_shared.specs.Posting.{TakesBack}
 use Rattle.bp_workers.specs.declared.worker.Left.{Left}
 use Rattle.bp_workers.specs.Giving.{GoBack}
 use Rattle.bp_workers.specs.Lists.{SideBySide}
@@ -157,8 +155,7 @@ left_still p geometry_of start c client old new j left below b is = record {
     saw = goes_on_taken c j.session.seen old new is.left_is.saw b;
     held = is.left_is.held;
     all_back = is.left_is.all_back;
-    theirs = told_taken_back start c left.book.client old new left.book.said is.left_is.theirs b;
-    posted = unfixed_still start c left.book.client old new (unfixes left.book.said) (λ same. let mine = is.left_is.client ∙ is.number in absurd (omega (arith, same, mine, below))) is.left_is.posted b;
+    theirs = listed_taken_back start c left.book.client old new left.book.said (λ same. let mine = is.left_is.client ∙ is.number in absurd (omega (arith, same, mine, below))) is.left_is.theirs b;
   };
 }
 
@@ -226,8 +223,7 @@ left_by p geometry_of core Leaves client given old new left is ran leaves same k
       all_back = (λ yes. ap held_passes leaves.said ∙ ran.all_back.0 (sym leaves.all_back ∙ yes), λ none. leaves.all_back ∙ ran.all_back.1 (sym (ap held_passes leaves.said) ∙ none));
       cut = leaves.before ∙ ran.before;
       saw = subst (λ l. GoesOnFrom l core.past) ran.seen leaves.saw;
-      theirs = subst (λ c. of_client c (told core.past) ≡ told left.book.said) whose (told_whole core.past left.book.client left.book.said leaves.theirs);
-      posted = subst (λ c. unfixed c core.past ≡ unfixes left.book.said) whose (unfixed_whole core.past left.book.client (unfixes left.book.said) leaves.posted);
+      theirs = subst (λ c. of_client c core.past ≡ left.book.said) whose (listed_whole core.past left.book.client left.book.said leaves.theirs);
     }
 
 each_left : {W P K I B S : Type 0} (p : Parameters) (geometry_of : P → Geometry) (core : CoreView) (Leaves : Leaving W P) (n : ℕ) (given : List (W × P)) (olds news : List (JobValue W P)) (lefts : List (Left P W K I B S))

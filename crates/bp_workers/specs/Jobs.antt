@@ -5,9 +5,7 @@ use Rattle.bp_trail.specs.Parameters.{Parameters}
 use Rattle.bp_trail.specs.Script.{held_passes}
 use Rattle.bp_trail.specs.Trail.{Trail}
 use Rattle.bp_shared.specs.Sessions.{SessionValue, new_session}
-use Rattle.bp_session_log.specs.Books.{unfixes}
-use Rattle.bp_shared.specs.Posting.{IsUnfixedBy}
-use Rattle.bp_shared.specs.Telling.{GoesOnFrom, IsToldBy}
+use Rattle.bp_shared.specs.Telling.{GoesOnFrom, IsListOf}
 use Rattle.bp_workers.specs.declared.worker.Left.{Left}
 use Rattle.bp_workers.specs.Giving.{GoBack}
 use Rattle.bp_workers.specs.Workers.{UpkeepValue, new_upkeep, Leaving}
@@ -45,9 +43,8 @@ pub record Ran {W P : Type 0} (Leaves : Leaving W P) (old new : JobValue W P) : 
   pub upkeep : is_some new.upkeep ≡ is_some old.upkeep
 
 -- what it leaves: the worker, its port, which is one to the pool's pages, and the session's own
--- list, with what cuts handed out of that; the list told what the trail tells of the client, since
--- the pool was made, and the client gave back in the trail what its list gave back; and the trail
--- goes on from what the session saw of it
+-- list, with what cuts handed out of that, which is all that the trail has of the client since the
+-- pool was made; and the trail goes on from what the session saw of it
 pub record IsLeftOf {P W K I B S : Type 0} (p : Parameters) (geometry_of : P → Geometry)
     (start past : Trail) (j : JobValue W P) (left : Left P W K I B S) : Type 0 where
   pub worker : left.worker ≡ j.worker
@@ -59,8 +56,7 @@ pub record IsLeftOf {P W K I B S : Type 0} (p : Parameters) (geometry_of : P →
   pub saw : GoesOnFrom j.session.seen past
   pub held : left.held ≡ j.held
   pub all_back : left.all_went_back ≡ j.all_went_back
-  pub theirs : IsToldBy start past left.book.client left.book.said
-  pub posted : IsUnfixedBy start past left.book.client (unfixes left.book.said)
+  pub theirs : IsListOf start past left.book.client left.book.said
 
 -- the jobs are of this client and those after it, in order
 abbrev pub AreNumbered : {W P : Type 0} → ℕ → List (JobValue W P) → Type 0

@@ -9,9 +9,7 @@ use Rattle.bp_trail.specs.Clients.{of_client}
 use Rattle.bp_core.specs.CoreView.{CoreView}
 use Rattle.bp_core.specs.Outcomes.{IsFitUpTo}
 use Rattle.bp_shared.specs.Sessions.{SessionValue, new_session}
-use Rattle.bp_session_log.specs.Books.{unfixes}
-use Rattle.bp_shared.specs.Posting.{unfixed}
-use Rattle.bp_shared.specs.Telling.{told, GoesOnFrom}
+use Rattle.bp_shared.specs.Telling.{GoesOnFrom}
 use Rattle.bp_core.specs.declared.config.Config.{Config}
 use Rattle.bp_core.specs.Agreement.{parameters_with}
 use Rattle.bp_workers.specs.declared.worker.Left.{Left}
@@ -55,9 +53,8 @@ KeepsUp core (suc client) (Some u) = ⊥
 -- what a client's worker left of itself and of the port that it was given, by its own word, and
 -- what client 0's upkeep came to; the port is still one to the pool's pages; the book is the
 -- client's. Then the passes go back that it held, and the session's list is handed over, less what
--- was cut. Except for unfixes it is what the core's trail tells of the client; and the client gave
--- back in the trail the passes that its list gave back: all of them, in that order, and no other.
--- What the session saw of the trail is the older part of the core's
+-- was cut. It is all that the core's trail has of the client, each unfix in its place. What the
+-- session saw of the trail is the older part of the core's
 pub record LeftBy {P W K I B S : Type 0} (core : CoreView) (geometry_of : P → Geometry)
     (Leaves : Leaving W P)
     (client : ℕ) (given : W × P) (left : Left P W K I B S) : Type 0 where
@@ -73,8 +70,7 @@ pub record LeftBy {P W K I B S : Type 0} (core : CoreView) (geometry_of : P → 
   pub all_back : (left.all_went_back ≡ true) ↔ (held_passes left.book.said ≡ [])
   pub cut : left.book.before ≡ returned.before
   pub saw : GoesOnFrom returned.seen core.past
-  pub theirs : of_client client (told core.past) ≡ told left.book.said
-  pub posted : unfixed client core.past ≡ unfixes left.book.said
+  pub theirs : of_client client core.past ≡ left.book.said
 
 -- the job of a client's worker over its port, before its thread
 pub record IsNewJob {W P : Type 0} (client : ℕ) (given : W × P) (j : JobValue W P) : Type 0 where

@@ -3,6 +3,7 @@ ghost use Rattle.std.specs.Prelude.{◌≡◌, ◌+◌, ◌^◌, ◌<◌, IfSome
 ghost use Rattle.bp_trail.specs.Saved.{IsRedoFrom};
 ghost use Rattle.bp_core.specs.Counts.{AreCounts};
 ghost use Rattle.bp_core.specs.Unsaved.{FindsUnsaved};
+ghost use Rattle.bp_shared.specs.Locked.{Enters};
 ghost use Rattle.bp_shared.specs.Telling.{Sees};
 
 use super::LockedPool;
@@ -16,6 +17,7 @@ use bp_session_log::Book;
 impl<N: PoolName, K: ListKeeper> LockedPool<N, K> {
     /// Shows the session the trail as it is.
     fn show(&mut self, session: &mut Session<N, K>)
+        requires entered { Enters N.past session.old self.old }
         ensures sees { Sees N.parameters N.past session.old session.new }
         ensures core { self.new ≡ self.old }
         ensures now { session.new.seen ≡ self.new.core.past }
@@ -29,6 +31,7 @@ impl<N: PoolName, K: ListKeeper> LockedPool<N, K> {
 
     /// Returns the first unsaved page from this number on.
     pub(crate) fn next_unsaved(&mut self, session: &mut Session<N, K>, from: u64) -> Option<PageNo>
+        requires entered { Enters N.past session.old self.old }
         ensures sees { Sees N.parameters N.past session.old session.new }
         ensures core { self.new ≡ self.old }
         ensures now { session.new.seen ≡ self.new.core.past }
@@ -46,6 +49,7 @@ impl<N: PoolName, K: ListKeeper> LockedPool<N, K> {
 
     /// Returns the LSN from which redo has to begin.
     pub(crate) fn redo_from(&mut self, session: &mut Session<N, K>) -> Option<Lsn>
+        requires entered { Enters N.past session.old self.old }
         ensures sees { Sees N.parameters N.past session.old session.new }
         ensures core { self.new ≡ self.old }
         ensures now { session.new.seen ≡ self.new.core.past }
@@ -57,6 +61,7 @@ impl<N: PoolName, K: ListKeeper> LockedPool<N, K> {
 
     /// Returns the core's counts of replies and pages.
     pub(crate) fn stats(&mut self, session: &mut Session<N, K>) -> Stats
+        requires entered { Enters N.past session.old self.old }
         ensures sees { Sees N.parameters N.past session.old session.new }
         ensures core { self.new ≡ self.old }
         ensures now { session.new.seen ≡ self.new.core.past }

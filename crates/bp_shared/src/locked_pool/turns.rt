@@ -8,7 +8,7 @@ ghost use Rattle.bp_session_log.specs.Turns.{TickSaid, PurgeSaid, ReadSaid, Read
 ghost use Rattle.bp_session_log.specs.Causes.{EndsRead, EndsWrite};
 ghost use Rattle.bp_core.specs.Outcomes.{TickOutcome, PurgeOutcome, ReadOutcome};
 ghost use Rattle.bp_core.specs.Outcomes.{ReadIntoOutcome, WriteOutcome};
-ghost use Rattle.bp_shared.specs.Locked.{IsDrained, InStep, FixStep, FlushStep, ends_after};
+ghost use Rattle.bp_shared.specs.Locked.{Enters, InStep, FixStep, FlushStep, ends_after};
 
 use super::LockedPool;
 use crate::names::PoolName;
@@ -37,7 +37,7 @@ impl<N: PoolName, K: ListKeeper> LockedPool<N, K> {
         session: &mut Session<N, K>,
         page: PageNo,
     ) -> Result<Fix, Refusal>
-        requires drained { IsDrained self.old }
+        requires entered { Enters N.past session.old self.old }
         requires mark { mark.now ≡ N.mark }
         requires page_in { page < N.parameters.pages }
         requires entries { 4 ≤ session.old.room }
@@ -66,7 +66,7 @@ impl<N: PoolName, K: ListKeeper> LockedPool<N, K> {
         session: &mut Session<N, K>,
         page: PageNo,
     ) -> Result<Flush, Refusal>
-        requires drained { IsDrained self.old }
+        requires entered { Enters N.past session.old self.old }
         requires mark { mark.now ≡ N.mark }
         requires page_in { page < N.parameters.pages }
         requires entries { 4 ≤ session.old.room }
@@ -95,7 +95,7 @@ impl<N: PoolName, K: ListKeeper> LockedPool<N, K> {
         ticket: PendingRead,
         read: Result<Image, PortFault>,
     ) -> Result<Pass, Refusal>
-        requires drained { IsDrained self.old }
+        requires entered { Enters N.past session.old self.old }
         requires owes { OwesRead session.old.client ticket session.old.said }
         requires size { IfOk read (λ image. length image ≡ N.parameters.size) }
         ensures client { session.new.client ≡ session.old.client }
@@ -121,7 +121,7 @@ impl<N: PoolName, K: ListKeeper> LockedPool<N, K> {
         ticket: PendingWrite,
         written: Result<(), PortFault>,
     ) -> Result<Ended, Refusal>
-        requires drained { IsDrained self.old }
+        requires entered { Enters N.past session.old self.old }
         requires owes { OwesWrite session.old.client ticket session.old.said }
         ensures client { session.new.client ≡ session.old.client }
         ensures before { session.new.before ≡ session.old.before }
@@ -140,7 +140,7 @@ impl<N: PoolName, K: ListKeeper> LockedPool<N, K> {
     }
 
     pub(crate) fn tick(&mut self, session: &mut Session<N, K>, n: u64) -> Result<(), Refusal>
-        requires drained { IsDrained self.old }
+        requires entered { Enters N.past session.old self.old }
         requires room { 0 < session.old.room }
         ensures client { session.new.client ≡ session.old.client }
         ensures before { session.new.before ≡ session.old.before }
@@ -160,7 +160,7 @@ impl<N: PoolName, K: ListKeeper> LockedPool<N, K> {
 
     /// Forgets old references, and returns the number of their pages.
     pub(crate) fn purge(&mut self, session: &mut Session<N, K>) -> Result<u64, Refusal>
-        requires drained { IsDrained self.old }
+        requires entered { Enters N.past session.old self.old }
         requires room { 0 < session.old.room }
         ensures client { session.new.client ≡ session.old.client }
         ensures before { session.new.before ≡ session.old.before }
@@ -184,7 +184,7 @@ impl<N: PoolName, K: ListKeeper> LockedPool<N, K> {
         session: &mut Session<N, K>,
         pass: &Pass,
     ) -> Result<Image, Refusal>
-        requires drained { IsDrained self.old }
+        requires entered { Enters N.past session.old self.old }
         requires own { pass.now.client ≡ session.old.client }
         requires room { 0 < session.old.room }
         requires copies { 0 < session.old.copies }
@@ -213,7 +213,7 @@ impl<N: PoolName, K: ListKeeper> LockedPool<N, K> {
         offset: u32,
         into: &mut [u8],
     ) -> Result<(), Refusal>
-        requires drained { IsDrained self.old }
+        requires entered { Enters N.past session.old self.old }
         requires own { pass.now.client ≡ session.old.client }
         requires fits { offset + length into.old ≤ N.parameters.size }
         requires room { 0 < session.old.room }
@@ -248,7 +248,7 @@ impl<N: PoolName, K: ListKeeper> LockedPool<N, K> {
         lsn: Lsn,
         spare: K::SpareBytes,
     ) -> Result<(), Refusal>
-        requires drained { IsDrained self.old }
+        requires entered { Enters N.past session.old self.old }
         requires own { pass.now.client ≡ session.old.client }
         requires fits { offset + length bytes.now ≤ N.parameters.size }
         requires room { 0 < session.old.room }

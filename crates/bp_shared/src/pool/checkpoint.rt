@@ -29,7 +29,7 @@ impl<N: PoolName, K: ListKeeper> SharedPool<N, K> {
         ensures found { FindsUnsaved N.parameters.pages from session.new.seen result }
         ensures few { IfSome result (λ page. page + 1 < 2 ^ 64) }
     {
-        let mut state = self.lock_and_drain(rt);
+        let mut state = self.lock_and_drain(rt, session);
         state.next_unsaved(session, from)
     }
 
@@ -43,7 +43,7 @@ impl<N: PoolName, K: ListKeeper> SharedPool<N, K> {
         ensures sees { Sees N.parameters N.past session.old session.new }
         ensures least { IsRedoFrom session.new.seen result }
     {
-        let mut state = self.lock_and_drain(rt);
+        let mut state = self.lock_and_drain(rt, session);
         state.redo_from(session)
     }
 
@@ -52,7 +52,7 @@ impl<N: PoolName, K: ListKeeper> SharedPool<N, K> {
         ensures sees { Sees N.parameters N.past session.old session.new }
         ensures counts { AreCounts session.new.seen result }
     {
-        let mut state = self.lock_and_drain(rt);
+        let mut state = self.lock_and_drain(rt, session);
         state.stats(session)
     }
 }

@@ -13,7 +13,7 @@ use bp_session_log::{Fix, PendingRead, PendingWrite};
 use std::sync::Wait;
 
 impl<N: PoolName, K: ListKeeper> SharedPool<N, K> {
-    ghost use Rattle.std.specs.Prelude.{◌≡◌, ◌≢◌, ◌<◌};
+    ghost use Rattle.std.specs.Prelude.{◌≡◌, ◌≢◌, ◌<◌, ◌≤◌};
     ghost use Rattle.bp_session_log.specs.Books.{OwesRead, OwesWrite};
     ghost use Rattle.bp_session_log.specs.Turns.{FixTurn, LoadOutcome, WriteOutOutcome};
     ghost use Rattle.bp_core.specs.Work.{MadeBlank};
@@ -33,13 +33,13 @@ impl<N: PoolName, K: ListKeeper> SharedPool<N, K> {
         ensures client { session.new.client ≡ session.old.client }
         ensures before { session.new.before ≡ session.old.before }
         ensures seen { session.new.seen ≡ session.old.seen }
-        ensures free { session.new.free ≡ session.old.free }
+        ensures free { session.old.free ≤ session.new.free }
         ensures port { P.geometry_of port.new ≡ P.geometry_of port.old }
         ensures outcome { LoadOutcome S.gives ticket result session.old.said session.new.said
             port.old port.new }
     {
         let read = source.bring(rt, port, ticket.page());
-        let mut state = self.lock_and_drain(rt);
+        let mut state = self.lock_and_drain(rt, session);
         let ended = state.end_read(session, ticket, read);
         drop(state);
         self.ended.notify_all();
@@ -59,13 +59,13 @@ impl<N: PoolName, K: ListKeeper> SharedPool<N, K> {
         ensures client { session.new.client ≡ session.old.client }
         ensures before { session.new.before ≡ session.old.before }
         ensures seen { session.new.seen ≡ session.old.seen }
-        ensures free { session.new.free ≡ session.old.free }
+        ensures free { session.old.free ≤ session.new.free }
         ensures port { P.geometry_of port.new ≡ P.geometry_of port.old }
         ensures outcome { WriteOutOutcome P.write_gives ticket result session.old.said
             session.new.said port.old port.new }
     {
         let written = port.write(rt, ticket.page(), ticket.image(), ticket.lsn());
-        let mut state = self.lock_and_drain(rt);
+        let mut state = self.lock_and_drain(rt, session);
         let ended = state.end_write(session, ticket, written);
         drop(state);
         self.ended.notify_all();
@@ -86,11 +86,11 @@ impl<N: PoolName, K: ListKeeper> SharedPool<N, K> {
         ensures client { session.new.client ≡ session.old.client }
         ensures before { session.new.before ≡ session.old.before }
         ensures seen { session.new.seen ≡ session.old.seen }
-        ensures free { session.new.free ≡ session.old.free }
+        ensures free { session.old.free ≤ session.new.free }
         ensures turn { FixTurn session.old.client page result session.old.said session.new.said }
     {
         session.book.reserve_for_event()?;
-        let mut state = self.lock_and_drain(rt);
+        let mut state = self.lock_and_drain(rt, session);
         let answer = state.fix(&self.mark, session, page);
         self.unlock_or_wait(rt, state, &answer);
         answer
@@ -117,7 +117,7 @@ impl<N: PoolName, K: ListKeeper> SharedPool<N, K> {
         ensures client { session.new.client ≡ session.old.client }
         ensures before { session.new.before ≡ session.old.before }
         ensures seen { session.new.seen ≡ session.old.seen }
-        ensures free { session.new.free ≡ session.old.free }
+        ensures free { session.old.free ≤ session.new.free }
         ensures port { P.geometry_of port.new ≡ P.geometry_of port.old }
         ensures outcome { FixSaid session.old.client page result session.old.said session.new.said }
         ensures work { result ≢ Err Refusal.UnknownTicket → DoesWorkSaid P.read_gives P.write_gives
@@ -144,7 +144,7 @@ impl<N: PoolName, K: ListKeeper> SharedPool<N, K> {
         ensures client { session.new.client ≡ session.old.client }
         ensures before { session.new.before ≡ session.old.before }
         ensures seen { session.new.seen ≡ session.old.seen }
-        ensures free { session.new.free ≡ session.old.free }
+        ensures free { session.old.free ≤ session.new.free }
         ensures port { P.geometry_of port.new ≡ P.geometry_of port.old }
         ensures outcome { FixSaid session.old.client page result session.old.said session.new.said }
         ensures work { result ≢ Err Refusal.UnknownTicket → DoesWorkSaid
@@ -169,7 +169,7 @@ impl<N: PoolName, K: ListKeeper> SharedPool<N, K> {
         ensures client { session.new.client ≡ session.old.client }
         ensures before { session.new.before ≡ session.old.before }
         ensures seen { session.new.seen ≡ session.old.seen }
-        ensures free { session.new.free ≡ session.old.free }
+        ensures free { session.old.free ≤ session.new.free }
         ensures port { P.geometry_of port.new ≡ P.geometry_of port.old }
         ensures outcome { FixSaid session.old.client page result session.old.said session.new.said }
         ensures work { result ≢ Err Refusal.UnknownTicket → DoesWorkSaid S.gives P.write_gives

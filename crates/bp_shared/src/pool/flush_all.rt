@@ -11,7 +11,7 @@ use bp_ports::Port;
 use std::sync::Wait;
 
 impl<N: PoolName, K: ListKeeper> SharedPool<N, K> {
-    ghost use Rattle.std.specs.Prelude.{◌≡◌, Err};
+    ghost use Rattle.std.specs.Prelude.{◌≡◌, Err, ◌≤◌};
     ghost use Rattle.bp_shared.specs.FlushAll.{FlushAllSaid};
     ghost use Rattle.bp_shared.specs.Sessions.{DoesWorkSaid};
 
@@ -31,7 +31,7 @@ impl<N: PoolName, K: ListKeeper> SharedPool<N, K> {
     ) -> Result<(), NotFlushed>
         ensures client { session.new.client ≡ session.old.client }
         ensures before { session.new.before ≡ session.old.before }
-        ensures free { session.new.free ≡ session.old.free }
+        ensures free { session.old.free ≤ session.new.free }
         ensures port { P.geometry_of port.new ≡ P.geometry_of port.old }
         ensures outcome { FlushAllSaid (record { parameters = N.parameters; start = N.past })
             result session.old session.new }

@@ -11,7 +11,7 @@ use bp_session_log::Flush;
 use std::sync::Wait;
 
 impl<N: PoolName, K: ListKeeper> SharedPool<N, K> {
-    ghost use Rattle.std.specs.Prelude.{◌≡◌, ◌≢◌, ◌<◌};
+    ghost use Rattle.std.specs.Prelude.{◌≡◌, ◌≢◌, ◌<◌, ◌≤◌};
     ghost use Rattle.bp_session_log.specs.Turns.{FlushTurn};
     ghost use Rattle.bp_shared.specs.Sessions.{DoesWorkSaid, FlushSaid};
 
@@ -27,11 +27,11 @@ impl<N: PoolName, K: ListKeeper> SharedPool<N, K> {
         ensures client { session.new.client ≡ session.old.client }
         ensures before { session.new.before ≡ session.old.before }
         ensures seen { session.new.seen ≡ session.old.seen }
-        ensures free { session.new.free ≡ session.old.free }
+        ensures free { session.old.free ≤ session.new.free }
         ensures turn { FlushTurn session.old.client page result session.old.said session.new.said }
     {
         session.book.reserve_for_event()?;
-        let mut state = self.lock_and_drain(rt);
+        let mut state = self.lock_and_drain(rt, session);
         let answer = state.flush(&self.mark, session, page);
         self.unlock_or_wait(rt, state, &answer);
         answer
@@ -54,7 +54,7 @@ impl<N: PoolName, K: ListKeeper> SharedPool<N, K> {
         ensures client { session.new.client ≡ session.old.client }
         ensures before { session.new.before ≡ session.old.before }
         ensures seen { session.new.seen ≡ session.old.seen }
-        ensures free { session.new.free ≡ session.old.free }
+        ensures free { session.old.free ≤ session.new.free }
         ensures port { P.geometry_of port.new ≡ P.geometry_of port.old }
         ensures outcome { FlushSaid session.old.client page result
             session.old.said session.new.said }

@@ -20,13 +20,13 @@ impl<N: PoolName, K: ListKeeper> SharedPool<N, K> {
         ensures client { session.new.client ≡ session.old.client }
         ensures before { session.new.before ≡ session.old.before }
         ensures seen { session.new.seen ≡ session.old.seen }
-        ensures free { session.new.free ≡ session.old.free }
+        ensures free { session.old.free ≤ session.new.free }
         ensures outcome { TickSaid session.old.client n result session.old.said session.new.said }
         ensures memory { K.REFUSES ≡ false → IsRoomy session.old
             → result ≢ Err Refusal.OutOfMemory }
     {
         session.book.reserve_for_event()?;
-        let mut state = self.lock_and_drain(rt);
+        let mut state = self.lock_and_drain(rt, session);
         state.tick(session, n)
     }
 
@@ -36,13 +36,13 @@ impl<N: PoolName, K: ListKeeper> SharedPool<N, K> {
         ensures client { session.new.client ≡ session.old.client }
         ensures before { session.new.before ≡ session.old.before }
         ensures seen { session.new.seen ≡ session.old.seen }
-        ensures free { session.new.free ≡ session.old.free }
+        ensures free { session.old.free ≤ session.new.free }
         ensures outcome { PurgeSaid session.old.client result session.old.said session.new.said }
         ensures memory { K.REFUSES ≡ false → IsRoomy session.old
             → result ≢ Err Refusal.OutOfMemory }
     {
         session.book.reserve_for_event()?;
-        let mut state = self.lock_and_drain(rt);
+        let mut state = self.lock_and_drain(rt, session);
         state.purge(session)
     }
 
@@ -58,7 +58,7 @@ impl<N: PoolName, K: ListKeeper> SharedPool<N, K> {
         ensures client { session.new.client ≡ session.old.client }
         ensures before { session.new.before ≡ session.old.before }
         ensures seen { session.new.seen ≡ session.old.seen }
-        ensures free { session.new.free ≡ session.old.free }
+        ensures free { session.old.free ≤ session.new.free }
         ensures size { IfOk result (λ image. length image ≡ N.parameters.size) }
         ensures stranger { pass.now.client ≢ session.old.client → result ≡ Err Refusal.UnknownPass }
         ensures outcome { ReadSaid session.old.client pass.now result
@@ -68,7 +68,7 @@ impl<N: PoolName, K: ListKeeper> SharedPool<N, K> {
             return Err(Refusal::UnknownPass);
         }
         session.book.reserve_for_event()?;
-        let mut state = self.lock_and_drain(rt);
+        let mut state = self.lock_and_drain(rt, session);
         state.read(session, pass)
     }
 
@@ -87,7 +87,7 @@ impl<N: PoolName, K: ListKeeper> SharedPool<N, K> {
         ensures client { session.new.client ≡ session.old.client }
         ensures before { session.new.before ≡ session.old.before }
         ensures seen { session.new.seen ≡ session.old.seen }
-        ensures free { session.new.free ≡ session.old.free }
+        ensures free { session.old.free ≤ session.new.free }
         ensures stranger { pass.now.client ≢ session.old.client → result ≡ Err Refusal.UnknownPass }
         ensures outcome { ReadIntoSaid session.old.client pass.now offset into.old result into.new
             session.old.said session.new.said }
@@ -98,7 +98,7 @@ impl<N: PoolName, K: ListKeeper> SharedPool<N, K> {
             return Err(Refusal::UnknownPass);
         }
         session.book.reserve_for_event()?;
-        let mut state = self.lock_and_drain(rt);
+        let mut state = self.lock_and_drain(rt, session);
         state.read_into(session, pass, offset, into)
     }
 
@@ -117,7 +117,7 @@ impl<N: PoolName, K: ListKeeper> SharedPool<N, K> {
         ensures client { session.new.client ≡ session.old.client }
         ensures before { session.new.before ≡ session.old.before }
         ensures seen { session.new.seen ≡ session.old.seen }
-        ensures free { session.new.free ≡ session.old.free }
+        ensures free { session.old.free ≤ session.new.free }
         ensures stranger { pass.now.client ≢ session.old.client → result ≡ Err Refusal.UnknownPass }
         ensures outcome { WriteSaid session.old.client pass.now offset bytes.now lsn result
             session.old.said session.new.said }
@@ -141,7 +141,7 @@ impl<N: PoolName, K: ListKeeper> SharedPool<N, K> {
         ensures client { session.new.client ≡ session.old.client }
         ensures before { session.new.before ≡ session.old.before }
         ensures seen { session.new.seen ≡ session.old.seen }
-        ensures free { session.new.free ≡ session.old.free }
+        ensures free { session.old.free ≤ session.new.free }
         ensures stranger { pass.now.client ≢ session.old.client → result ≡ Err Refusal.UnknownPass }
         ensures outcome { WriteSaid session.old.client pass.now offset bytes.now lsn result
             session.old.said session.new.said }
@@ -153,7 +153,7 @@ impl<N: PoolName, K: ListKeeper> SharedPool<N, K> {
         }
         let spare = K::spare_bytes(self.alloc, bytes)?;
         session.book.reserve_for_event()?;
-        let mut state = self.lock_and_drain(rt);
+        let mut state = self.lock_and_drain(rt, session);
         state.write(session, pass, offset, bytes, lsn, spare)
     }
 }

@@ -8,7 +8,7 @@ use Rattle.bp_shared.proofs.Posting.{next_name}
 use Rattle.bp_shared.specs.Sessions.{new_sessions}
 use Rattle.bp_shared.specs.Telling.{IsBlank}
 use Rattle.bp_shared.proofs.Making.{sessions_more}
-use Rattle.bp_shared.proofs.Telling.{blank_more}
+use Rattle.bp_shared.proofs.Telling.{blank_more, line_new}
 use Rattle.bp_shared.proofs.pool.new_clients.Goals as goal
 
 pub loop-client-init : goal.loop-client-init
@@ -37,11 +37,7 @@ new-session-requires-clause-ring g c =
     next_name c.args.producers.items g.N.PoolName.ring.rings c.loop-client.client c.in-Some.producer (into_iter_items c.next.new.self) c.requires.rings below (sym c.in-Some.ensures.items ∙ c.loop-client.invariant.rings)
 
 pub new-session-requires-clause-line : goal.new-session-requires-clause-line
-new-session-requires-clause-line g c = record {
-  board_is = c.line-line.ensures.name_is ∙ c.loop-client.invariant.board;
-  number_is = c.line-line.ensures.number_is ∙ c.loop-client.invariant.lines;
-  list_is = c.line-line.ensures.empty;
-}
+new-session-requires-clause-line g c = line_new _ _ _ (c.line-line.ensures.name_is ∙ c.loop-client.invariant.board) (c.line-line.ensures.number_is ∙ c.loop-client.invariant.lines) c.line-line.ensures.empty
 
 pub loop-client-preserved : goal.loop-client-preserved
 loop-client-preserved g c =

@@ -9,7 +9,7 @@ use Rattle.bp_workers.proofs.Working.{goes-on-work, gives-up-work}
 use Rattle.bp_workers.proofs.durable.fix_durably.Goals as goal
 
 pub loop-round-init : goal.loop-round-init
-loop-round-init g c = record { client = refl; before = refl; seen = refl; free = refl; port = refl; lent = refl; raises = raises-none _ _; leads = leads-none _ _ _ _ _ _ _ _; work = none-yet _ _ _ _ }
+loop-round-init g c = record { client = refl; before = refl; seen = refl; free = omega arith; port = refl; lent = refl; raises = raises-none _ _; leads = leads-none _ _ _ _ _ _ _ _; work = none-yet _ _ _ _ }
 
 pub loop-round-preserved : goal.loop-round-preserved
 loop-round-preserved g c =
@@ -21,7 +21,7 @@ loop-round-preserved g c =
       client = c.overcome.ensures.client ∙ c.ask_fix.ensures.client ∙ i.client;
       before = c.overcome.ensures.before ∙ c.ask_fix.ensures.before ∙ i.before;
       seen = c.overcome.ensures.seen ∙ c.ask_fix.ensures.seen ∙ i.seen;
-      free = c.overcome.ensures.free ∙ c.ask_fix.ensures.free ∙ i.free;
+      free = omega (arith, c.overcome.ensures.free, c.ask_fix.ensures.free, i.free);
       port = c.ask_fix.ensures.port ∙ i.port;
       lent = c.overcome.ensures.lent ∙ i.lent;
       raises = raises-then _ _ _ _ _ _ i.raises c.overcome.ensures.raises;
@@ -36,7 +36,7 @@ returns-in-Ok g c =
       client = c.ask_fix.ensures.client ∙ i.client;
       before = c.ask_fix.ensures.before ∙ i.before;
       seen = c.ask_fix.ensures.seen ∙ i.seen;
-      free = c.ask_fix.ensures.free ∙ i.free;
+      free = omega (arith, c.ask_fix.ensures.free, i.free);
       port = c.ask_fix.ensures.port ∙ i.port;
       lent = i.lent;
       raises = i.raises;
@@ -55,7 +55,7 @@ returns-in_err-overcome-in-Err g c =
       client = c.overcome.ensures.client ∙ c.ask_fix.ensures.client ∙ i.client;
       before = c.overcome.ensures.before ∙ c.ask_fix.ensures.before ∙ i.before;
       seen = c.overcome.ensures.seen ∙ c.ask_fix.ensures.seen ∙ i.seen;
-      free = c.overcome.ensures.free ∙ c.ask_fix.ensures.free ∙ i.free;
+      free = omega (arith, c.overcome.ensures.free, c.ask_fix.ensures.free, i.free);
       port = c.ask_fix.ensures.port ∙ i.port;
       lent = c.overcome.ensures.lent ∙ i.lent;
       raises = raises-then _ _ _ _ _ _ i.raises c.overcome.ensures.raises;
@@ -71,7 +71,7 @@ returns g c =
       client = c.ask_fix-2.ensures.client ∙ i.client;
       before = c.ask_fix-2.ensures.before ∙ i.before;
       seen = c.ask_fix-2.ensures.seen ∙ i.seen;
-      free = c.ask_fix-2.ensures.free ∙ i.free;
+      free = omega (arith, c.ask_fix-2.ensures.free, i.free);
       port = c.ask_fix-2.ensures.port ∙ i.port;
       lent = i.lent;
       raises = i.raises;

@@ -35,7 +35,7 @@ invariant_of-self-2 g c =
     let adds = adds_both client _ _ _ _ _ _ looked asked in (
       search rules,
       search rules,
-      shown_more _ _ client _ _ _ _ _ _ _ _ c.self.invariant.2 c.session.invariant.3 adds c.write.ensures,
+      shown_more _ _ client _ _ _ _ _ _ _ _ c.self.invariant.2 c.session.invariant.3 (rw (← c.self.view_is, ← c.session.view_is) at c.requires.entered.list_is) adds c.write.ensures,
       posted_adds _ _ _ client _ _ _ _ c.self.invariant.3 adds (c.ask_fix-answer.ensures.owner.unfixes_are ∙ c.look.ensures.owner.unfixes_are),
       c.self.invariant.4,
       earlier_adds _ _ _ _ _ _ _ c.self.invariant.5 adds,

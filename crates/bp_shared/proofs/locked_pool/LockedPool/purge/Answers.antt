@@ -11,7 +11,7 @@ invariant_of-self g c =
     let adds = adds_one c.session.inside.book.client _ _ _ _ done.alike (purge_one _ _ _ _ done.outcome) in (
       search rules,
       search rules,
-      shown_more _ _ c.session.inside.book.client _ _ _ _ _ _ _ _ c.self.invariant.2 c.session.invariant.3 adds c.write.ensures,
+      shown_more _ _ c.session.inside.book.client _ _ _ _ _ _ _ _ c.self.invariant.2 c.session.invariant.3 (rw (← c.self.view_is, ← c.session.view_is) at c.requires.entered.list_is) adds c.write.ensures,
       posted_adds _ _ _ c.session.inside.book.client _ _ _ _ c.self.invariant.3 adds done.owner.unfixes_are,
       c.self.invariant.4,
       earlier_adds _ _ _ _ _ _ _ c.self.invariant.5 adds,

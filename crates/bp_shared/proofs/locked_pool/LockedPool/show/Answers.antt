@@ -1,13 +1,13 @@
--- Both lines of the session are written: with what it told, and with the trail.
-use Rattle.std.proofs.Common.{refl}
-use Rattle.bp_shared.proofs.Telling.{shown_again, told_by, line_earlier, earlier_seen}
+-- Both lines of the session are written: with its list, and with the trail.
+use Rattle.std.proofs.Common.{arith, refl}
+use Rattle.bp_shared.proofs.Telling.{shown_again, line_earlier, earlier_seen}
 use Rattle.bp_shared.proofs.locked_pool.LockedPool.show.Goals as goal
 
 pub invariant_of-self : goal.invariant_of-self
 invariant_of-self g c = (
   c.self.invariant.0,
   c.self.invariant.1,
-  shown_again _ _ _ _ _ _ _ _ _ c.self.invariant.2 c.session.invariant.3 c.write.ensures,
+  shown_again _ _ _ _ _ _ _ _ _ c.self.invariant.2 c.session.invariant.3 (rw (← c.self.view_is, ← c.session.view_is) at c.requires.entered.list_is) c.write.ensures,
   c.self.invariant.3,
   c.self.invariant.4,
   earlier_seen _ _ _ _ _ _ c.self.invariant.5 c.write-2.ensures,
@@ -18,7 +18,8 @@ returns-clause-sees g c =
     let legal = rw c.self.invariant.0.parameters_are at c.keeps_the_rules.ensures.legal in
     rw (← c.session.view_is) (rw c.write-2.ensures.list_is (record {
       same = refl;
+      free = omega arith;
       legal = legal;
-      told_is = told_by _ _ _ _ _ _ _ _ _ _ c.self.invariant.2 c.session.invariant.3 c.write.ensures;
+      list_is = rw (← c.self.view_is, ← c.session.view_is) at c.requires.entered.list_is;
       goes_on = line_earlier _ _ _ _ _ _ _ c.self.invariant.5 c.write-2.ensures;
     }))

@@ -1,6 +1,8 @@
 -- Where memory is refused, nothing is asked.
-use Rattle.std.proofs.Common.{◌≡◌, refl, ◌∙◌}
+use Rattle.std.proofs.Common.{◌≡◌, refl, ◌∙◌, sym, ap, subst, ℕ, ◌≤◌, arith}
 use Rattle.bp_page.specs.declared.refusals.Refusal.TheVariants as refusal
+use Rattle.bp_shared.specs.Sessions.{SessionValue}
+use Rattle.rtrb.specs.Ring.{known_free}
 use Rattle.bp_shared.proofs.Turning.{flush_no_memory}
 use Rattle.bp_shared.proofs.pool.SharedPool.ask_flush.Goals as goal
 
@@ -13,18 +15,21 @@ returns-in_err-reserve_for_event g c =
       client = same.client;
       before = same.before;
       seen = refl;
-      free = refl;
+      free = omega arith;
       turn = flush_no_memory _ _ c.from_residual.result why _ _ c.from_residual.ensures.1 memory same.said;
     })
 
 pub returns : goal.returns
 returns g c =
     let same = c.in_ok-reserve_for_event.ensures.same in
+    let entered = c.lock_and_drain-state.ensures in
+    let client = ap (λ (s : SessionValue). s.client) entered.session ∙ same.client in
+    let said = ap (λ (s : SessionValue). s.said) entered.session ∙ same.said in
     let done = c.flush-answer.ensures in
     rw (← c.session.view_is) (record {
-      client = done.client ∙ same.client;
-      before = done.before ∙ same.before;
-      seen = done.seen;
-      free = done.free;
-      turn = rw (same.client, same.said) at done.turn;
+      client = done.client ∙ client;
+      before = done.before ∙ ap (λ (s : SessionValue). s.before) entered.session ∙ same.before;
+      seen = done.seen ∙ ap (λ (s : SessionValue). s.seen) entered.session;
+      free = subst (λ (n : ℕ). known_free c.session.inside.producer ≤ n) (sym done.free) entered.free;
+      turn = rw (client, said) at done.turn;
     })

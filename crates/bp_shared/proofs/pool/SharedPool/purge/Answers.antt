@@ -1,8 +1,10 @@
 -- Where memory is refused, nothing is asked.
-use Rattle.std.proofs.Common.{refl, sym, ap, subst, ◌∙◌, Err}
+use Rattle.std.proofs.Common.{refl, sym, ap, subst, ◌∙◌, Err, ℕ, ◌≤◌, arith}
 use Rattle.std.proofs.lemmas.Bool.{false≢true}
 use Rattle.std.proofs.lemmas.Result.{err_from_is_err_and}
 use Rattle.bp_session_log.specs.Turns.{PurgeSaid}
+use Rattle.bp_shared.specs.Sessions.{SessionValue}
+use Rattle.rtrb.specs.Ring.{known_free}
 use Rattle.bp_shared.proofs.Working.{why-of}
 use Rattle.bp_shared.proofs.pool.SharedPool.purge.Goals as goal
 
@@ -15,7 +17,7 @@ returns-in_err-reserve_for_event g c =
       client = refused.same.client;
       before = refused.same.before;
       seen = refl;
-      free = refl;
+      free = omega arith;
       outcome = subst (λ r. PurgeSaid c.session.inside.book.client r c.session.inside.book.said c.reserve_for_event.new.self.said) (sym why) refused.same.said;
       memory = λ silent roomy. absurd (false≢true (refused.memory silent roomy));
     })
@@ -23,12 +25,15 @@ returns-in_err-reserve_for_event g c =
 pub returns : goal.returns
 returns g c =
     let same = c.in_ok-reserve_for_event.ensures.same in
+    let entered = c.lock_and_drain-state.ensures in
+    let client = ap (λ (s : SessionValue). s.client) entered.session ∙ same.client in
+    let said = ap (λ (s : SessionValue). s.said) entered.session ∙ same.said in
     let done = c.purge.ensures in
     rw (← c.session.view_is) (record {
-      client = done.client ∙ same.client;
-      before = done.before ∙ same.before;
-      seen = done.seen;
-      free = done.free;
-      outcome = rw (same.client, same.said) at done.outcome;
+      client = done.client ∙ client;
+      before = done.before ∙ ap (λ (s : SessionValue). s.before) entered.session ∙ same.before;
+      seen = done.seen ∙ ap (λ (s : SessionValue). s.seen) entered.session;
+      free = subst (λ (n : ℕ). known_free c.session.inside.producer ≤ n) (sym done.free) entered.free;
+      outcome = rw (client, said) at done.outcome;
       memory = λ silent roomy. done.memory;
     })

@@ -1,9 +1,10 @@
 -- Where memory is refused, nothing is asked.
-use Rattle.std.proofs.Common.{refl, sym, ap, subst, ◌∙◌, Err}
+use Rattle.std.proofs.Common.{refl, sym, ap, subst, ◌∙◌, Err, ℕ, ◌≤◌, arith}
 use Rattle.std.proofs.lemmas.Bool.{false≢true}
 use Rattle.std.proofs.lemmas.Result.{err_from_is_err_and}
 use Rattle.bp_session_log.specs.Turns.{ReadIntoSaid}
 use Rattle.bp_shared.specs.Sessions.{SessionValue}
+use Rattle.rtrb.specs.Ring.{known_free}
 use Rattle.bp_shared.proofs.Working.{why-of}
 use Rattle.bp_shared.proofs.pool.SharedPool.read_into.Goals as goal
 
@@ -17,7 +18,7 @@ returns-in_err-reserve_for_event g c =
       client = refused.same.client;
       before = refused.same.before;
       seen = refl;
-      free = refl;
+      free = omega arith;
       stranger = λ not. absurd (not own);
       outcome = subst (λ r. ReadIntoSaid c.session.inside.book.client c.args.pass.now c.args.offset c.args.into.now r c.args.into.now c.session.inside.book.said c.reserve_for_event.new.self.said) (sym why) ((own, refused.same.said), refl);
       memory = λ silent roomy. absurd (false≢true (refused.memory silent roomy));
@@ -26,14 +27,17 @@ returns-in_err-reserve_for_event g c =
 pub returns : goal.returns
 returns g c =
     let same = c.in_ok-reserve_for_event.ensures.same in
+    let entered = c.lock_and_drain-state.ensures in
+    let client = ap (λ (s : SessionValue). s.client) entered.session ∙ same.client in
+    let said = ap (λ (s : SessionValue). s.said) entered.session ∙ same.said in
     let done = c.read_into.ensures in
     let own = sym c.client.ensures ∙ c.if-client.false ∙ c.client-2.ensures ∙ sym (ap (λ (s : SessionValue). s.client) c.session.view_is) in
     rw (← c.session.view_is) (record {
-      client = done.client ∙ same.client;
-      before = done.before ∙ same.before;
-      seen = done.seen;
-      free = done.free;
+      client = done.client ∙ client;
+      before = done.before ∙ ap (λ (s : SessionValue). s.before) entered.session ∙ same.before;
+      seen = done.seen ∙ ap (λ (s : SessionValue). s.seen) entered.session;
+      free = subst (λ (n : ℕ). known_free c.session.inside.producer ≤ n) (sym done.free) entered.free;
       stranger = λ not. absurd (not own);
-      outcome = rw (same.client, same.said) at done.outcome;
+      outcome = rw (client, said) at done.outcome;
       memory = λ silent roomy. done.memory silent;
     })
