@@ -1,3 +1,4 @@
+pub mod Freeing
 pub mod Stepping
 pub mod Turning
 pub mod Working

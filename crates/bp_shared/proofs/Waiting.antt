@@ -253,31 +253,34 @@ waiting-is-out c start past client said received rest g legal t u held posted =
     given-is-out c start past client said g (reverse received) legal t u w.was_given w.apart
 
 -- ---- a client's own ring, where its list is at hand: each pass that waits there goes back
-pub record Settles (names : List RingName) (start : Trail) (rings rings_after : List RingView) (old new : CoreView) (client : ℕ) (said : Trail) : Type 0 where
+pub record Settles (names : List RingName) (start : Trail) (rings rings_after : List RingView) (v : RingView) (old new : CoreView) (client : ℕ) (said : Trail) : Type 0 where
   pub posted : IsPosted names start rings_after new.past
   pub takes : TakesBack client old new
   pub theirs : IsToldBy start new.past client said
   pub all : IsUnfixedBy start new.past client (unfixes said)
   pub durable_is : durable new.past ≡ durable old.past
+  pub emptied : reverse v.received ≡ unfixes said
 
-pub settles : (names : List RingName) (start : Trail) (rings : List RingView) (old new : CoreView) (client at most : ℕ) (looked v d : RingView) (said : Trail) → IsPosted names start rings old.past → at < length rings → at ≡ client
+pub settles : (names : List RingName) (start : Trail) (rings : List RingView) (old new : CoreView) (client at most : ℕ) (looked v last d : RingView) (said : Trail) → IsPosted names start rings old.past → at < length rings → at ≡ client
     → looked.name ≡ (get_or rings at d).name → looked.received ≡ (get_or rings at d).received → DrainsKnown most at looked v old.past new.past → new.parameters ≡ old.parameters → new.before ≡ old.before → most ≡ length looked.waiting
-    → looked.received ++ looked.waiting ≡ reverse (unfixes said) → all_held said ≡ true → Legal new.parameters new.past → IsToldBy start old.past client said → Settles names start rings (set rings at v) old new client said
-settles names start rings old new client at most looked v d said p below is name received drained parameters before counted fifo held legal t = record {
+    → looked.received ++ looked.waiting ≡ reverse (unfixes said) → all_held said ≡ true → Legal new.parameters new.past → IsToldBy start old.past client said → last.name ≡ v.name → last.received ≡ v.received
+    → Settles names start rings (set rings at last) v old new client said
+settles names start rings old new client at most looked v last d said p below is name received drained parameters before counted fifo held legal t same got = record {
   posted = after;
   takes = subst (λ n. TakesBack n old new) is (takes_back at old new drained.taken parameters before drained.go_back);
   theirs = told_now;
   all = subst (IsUnfixedBy start new.past client) (unfixed_are (empty v.waiting refl)) gone;
   durable_is = go_back_durable at old.past drained.taken new.past drained.go_back;
+  emptied = unfixed_are (empty v.waiting refl);
 }
   where
-    after : IsPosted names start (set rings at v) new.past
-    after = posted_one names start rings old.past new.past at v d drained.taken p below (drained.same ∙ name) (drained.gave ∙ ap (λ gs. gs ++ reverse drained.taken) received) drained.go_back
+    after : IsPosted names start (set rings at last) new.past
+    after = posted_one names start rings old.past new.past at last d drained.taken p below (same ∙ drained.same ∙ name) (got ∙ drained.gave ∙ ap (λ gs. gs ++ reverse drained.taken) received) drained.go_back
 
     gone : IsUnfixedBy start new.past client (reverse v.received)
     gone = subst (λ n. IsUnfixedBy start new.past n (reverse v.received)) is
-        (subst (λ (r : RingView). IsUnfixedBy start new.past at (reverse r.received)) (get_or-set_same rings at v d below)
-        (came_back names start (set rings at v) new.past at d after (subst (λ n. at < n) (sym (length-set rings at v)) below)))
+        (subst (λ gs. IsUnfixedBy start new.past at (reverse gs)) (ap (λ (r : RingView). r.received) (get_or-set_same rings at last d below) ∙ got)
+        (came_back names start (set rings at last) new.past at d after (subst (λ n. at < n) (sym (length-set rings at last)) below)))
 
     told_now : IsToldBy start new.past client said
     told_now = told_still start old.past new.past client said t (went_back at old.past drained.taken new.past drained.go_back)

@@ -58,13 +58,15 @@ abbrev pub IsDrained : LockedValue → Type 0
 IsDrained state = (was : LockedValue) × Drained was state
 
 -- a section of a session has begun: the rings were drained, then the session's own once more, with
--- both its ends at hand; so the trail's entries of the client are the session's list
+-- both its ends at hand; so the trail's entries of the client are the session's list, and its ring is
+-- empty
 pub record Enters (start : Trail) (session : SessionValue) (state : LockedValue) : Type 0 where
   pub was : LockedValue
   pub mid : LockedValue
   pub drained : Drained was mid
   pub takes : TakesBack session.client mid.core state.core
   pub list_is : IsListOf start state.core.past session.client session.said
+  pub emptied : session.free ≡ 32
 
 -- the core did what the event says, and the trail and the list got the same entries
 pub record InStep (Event : CoreView → CoreView → Type 0) (old : LockedValue) (said : Trail)

@@ -2,7 +2,7 @@
 use Rattle.std.specs.Prelude.{◌≡◌, ℕ, suc, ◌==◌, not, List, [], ◌∷◌, ◌++◌, map, reverse, filter, filter_map, All, if◌then◌else◌}
 use Rattle.rtrb.specs.declared.producer.Producer.{Producer}
 use Rattle.rtrb.specs.declared.consumer.Consumer.{Consumer}
-use Rattle.rtrb.specs.Ring.{sent, received, known_free}
+use Rattle.rtrb.specs.Ring.{sent, received, known_free, producer_capacity}
 use Rattle.bp_trail.specs.Event.{Grant}
 use Rattle.bp_trail.specs.Lists.{some}
 use Rattle.bp_trail.specs.Trail.{Trail}
@@ -33,9 +33,9 @@ pub record IsPosted (names : List RingName) (start : Trail) (rings : List RingVi
   pub goes_on : past ≡ since ++ start
   pub all : (c : ℕ) → unfixed c since ≡ came_out 0 rings c
 
--- no pass went through the ring, which has 32 free places
+-- no pass went through the ring, which has 32 places, all of them free
 abbrev pub IsUnused : {A P : Type 0} → Producer Grant A P → Type 0
-IsUnused ring = (sent ring ≡ []) × (known_free ring ≡ 32)
+IsUnused ring = (sent ring ≡ []) × (known_free ring ≡ 32) × (producer_capacity ring ≡ 32)
 
 -- two lists of the ends of rings, that of the one and the other side in the same order, through
 -- which nothing went

@@ -70,8 +70,8 @@ pub record AreEarlier (board : ℕ) (b : Board) (past : Trail) : Type 0 where
 -- client are the session's list, and goes on from what the session saw before; what the session
 -- posted before has gone back in it
 pub record Sees (parameters : Parameters) (start : Trail) (old new : SessionValue) : Type 0 where
-  pub same : new ≡ record old { seen = new.seen; free = new.free }
-  pub free : old.free ≤ new.free
+  pub same : new ≡ record old { seen = new.seen; free = 32 }
+  pub free : old.free ≤ 32
   pub legal : Legal parameters new.seen
   pub list_is : IsListOf start new.seen old.client old.said
   pub goes_on : GoesOnFrom old.seen new.seen

@@ -122,19 +122,20 @@ impl<N: PoolName, K: ListKeeper> LockedPool<N, K> {
 
     /// Begins a session's critical section: gives each pass back that waits in the session's own ring, and writes its
     /// list on its line. Each of the passes is out, since the list gave it back while it held it. So the trail's entries
-    /// of the client are the session's list.
+    /// of the client are the session's list, and its ring is empty.
     pub(crate) fn drain_own(&mut self, session: &mut Session<N, K>)
         ensures takes { TakesBack session.old.client self.old.core self.new.core }
         ensures seen { self.new.seen ≡ self.old.seen }
         ensures ends { self.new.ends ≡ self.old.ends }
-        ensures session { session.new ≡ record session.old { free = session.new.free } }
-        ensures free { session.old.free ≤ session.new.free }
+        ensures session { session.new ≡ record session.old { free = 32 } }
+        ensures free { session.old.free ≤ 32 }
         ensures list { IsListOf N.past self.new.core.past session.old.client session.old.said }
     {
         let client = usize::from(session.client());
         let consumer = &mut self.consumers[client];
         let waiting = consumer.slots_beside(&mut session.producer);
         drain_known(&mut self.core, client, consumer, waiting);
+        session.producer.slots_beside(consumer);
         self.core.keeps_the_rules();
         self.board
             .write::<Book<K>, Told>(&mut session.line, &session.book);

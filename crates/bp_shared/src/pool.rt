@@ -288,8 +288,8 @@ impl<N: PoolName, K: ListKeeper> SharedPool<N, K> {
         rt: &R,
         session: &mut Session<N, K>,
     ) -> MutexGuard<'_, LockedPool<N, K>>
-        ensures session { session.new ≡ record session.old { free = session.new.free } }
-        ensures free { session.old.free ≤ session.new.free }
+        ensures session { session.new ≡ record session.old { free = 32 } }
+        ensures free { session.old.free ≤ 32 }
         ensures entered { Enters N.past session.new (mutex_guard_value result) }
     {
         let mut state = locked(rt, &self.state);

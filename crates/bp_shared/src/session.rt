@@ -42,7 +42,7 @@ pub struct Session<N: PoolName, K: ListKeeper = RecordingKeeper> {
 
 impl<N: PoolName, K: ListKeeper> Model for Session<N, K> {
     ghost use Rattle.std.specs.Prelude.{◌≡◌, ◌<◌, true, reverse, slice_index_or};
-    ghost use Rattle.rtrb.specs.Ring.{sent, known_free};
+    ghost use Rattle.rtrb.specs.Ring.{sent, known_free, producer_capacity};
     ghost use Rattle.bp_session_log.specs.Books.{unfixes, all_held};
     ghost use Rattle.bp_session_log.specs.Rings.{ring_of};
     ghost use Rattle.bp_shared.specs.Sessions.{SessionValue};
@@ -63,8 +63,8 @@ impl<N: PoolName, K: ListKeeper> Model for Session<N, K> {
       kept = s.book.kept;
     } };
 
-    // The ring is the client's; the passes posted are those of the list's own unfixes, in order, each of which the list
-    // held; the line has the list as it was in the last section.
+    // The ring is the client's, and has 32 places; the passes posted are those of the list's own unfixes, in order, each
+    // of which the list held; the line has the list as it was in the last section.
     ghost invariant = { λ s. (s.book.client < N.parameters.clients)
         × (s.book.size ≡ N.parameters.size)
         × (sent s.producer ≡ reverse (unfixes s.book.said))
@@ -72,7 +72,8 @@ impl<N: PoolName, K: ListKeeper> Model for Session<N, K> {
         × (slice_index_or N.ring.rings s.book.client (ring_of s.producer)
         ≡ ring_of s.producer)
         × (all_held s.book.said ≡ true)
-        × (s.seen.name ≡ N.ring.seen) };
+        × (s.seen.name ≡ N.ring.seen)
+        × (producer_capacity s.producer ≡ 32) };
 }
 
 impl<N: PoolName, K: ListKeeper> Session<N, K> {

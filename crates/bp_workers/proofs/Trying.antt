@@ -1,9 +1,11 @@
 -- Try after try.
-use Rattle.std.proofs.Common.{◌≡◌, ap, subst, ◌∙◌, ℕ, suc, ◌+◌, ◌-◌, ◌≤◌, ◌<◌, Bool, false, Result, Ok, Err, arith}
+use Rattle.std.proofs.Common.{◌≡◌, sym, ap, subst, ◌∙◌, ℕ, suc, ◌+◌, ◌-◌, ◌≤◌, ◌<◌, Bool, false, Result, Ok, Err, arith}
 use Rattle.bp_page.specs.declared.refusals.Refusal.{Refusal}
 use Rattle.bp_page.specs.declared.refusals.Refusal.TheVariants as refusal
 use Rattle.bp_core.specs.declared.passes.Pass.{Pass}
 use Rattle.bp_trail.specs.Trail.{Trail}
+use Rattle.bp_shared.specs.Sessions.{MayFree, FreesRing}
+use Rattle.bp_shared.proofs.Freeing.{freed, all_then, may_more}
 use Rattle.bp_shared.proofs.Stepping.{err}
 use Rattle.bp_workers.specs.Tries.{Fixes, Ticks, GivesUp, GoesOn, Tries}
 use Rattle.bp_workers.specs.Tries.Tries.{again, at_last, fixed, given_up}
@@ -64,6 +66,15 @@ pub gives-up-known : (ticks : Ticks) (client steps durable : ℕ) (why : Refusal
 gives-up-known ticks client steps durable (refusal.NeedLog lsn) ticked answer said after h known is = let no : refusal.NeedLog lsn ≡ refusal.UnknownTicket = ap why-of is in cc
 gives-up-known ticks client steps durable refusal.NoVictim ticked answer said after h known is = let no : refusal.NoVictim ≡ refusal.UnknownTicket = ap why-of is in cc
 gives-up-known ticks client steps durable why ticked answer said after h known is = known (ap (λ w. err Pass w) h.0 ∙ is)
+
+-- what the session knows of its ring then
+pub gives-up-frees : (ticks : Ticks) (client steps durable : ℕ) (why : Refusal) (ticked : Bool) (answer : Refusal) (said after : Trail) (free mid last : ℕ) → GivesUp ticks client steps durable why ticked answer said after
+    → FreesRing {A = Pass} (Err why) free mid → MayFree mid last → FreesRing {A = Pass} (Err answer) free last
+gives-up-frees ticks client steps durable (refusal.NeedLog lsn) ticked answer said after free mid last h f m = freed _ _ _ (all_then free mid last f m)
+gives-up-frees ticks client steps durable refusal.NoVictim ticked answer said after free mid last h f m = freed _ _ _ (all_then free mid last f m)
+gives-up-frees ticks client steps durable refusal.OutOfMemory ticked answer said after free mid last h f m = subst (λ w. FreesRing {A = Pass} (Err w) free last) (sym h.0) (may_more free mid last f m)
+gives-up-frees ticks client steps durable refusal.UnknownPass ticked answer said after free mid last h f m = subst (λ w. FreesRing {A = Pass} (Err w) free last) (sym h.0) (may_more free mid last f m)
+gives-up-frees ticks client steps durable _ ticked answer said after free mid last h f m = freed _ _ _ (all_then free mid last f m)
 
 -- who gives up adds nothing
 pub gives-up-stays : (ticks : Ticks) (client steps durable : ℕ) (why : Refusal) (ticked : Bool) (answer : Refusal) (said after : Trail) → GivesUp ticks client steps durable why ticked answer said after → after ≡ said

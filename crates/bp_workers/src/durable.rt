@@ -1,7 +1,7 @@
 //! `fix_durably`: a fix that has the log made durable, or waits for a victim, and is tried again.
-ghost use Rattle.std.specs.Prelude.{◌≡◌, ◌≢◌, ◌≤◌, ◌<◌, false, OnOk, IfErr};
+ghost use Rattle.std.specs.Prelude.{◌≡◌, ◌≢◌, ◌<◌, false, OnOk, IfErr};
 ghost use Rattle.bp_page.specs.declared.refusals.Refusal.TheVariants as Refusal;
-ghost use Rattle.bp_shared.specs.Sessions.{DoesWorkSaid};
+ghost use Rattle.bp_shared.specs.Sessions.{DoesWorkSaid, FreesRing, MayFree};
 ghost use Rattle.bp_workers.specs.Logs.{RaisesWithin};
 ghost use Rattle.bp_workers.specs.Tries.{GivesUp, GoesOn, Tries};
 
@@ -20,10 +20,10 @@ use std::time::Duration;
 /// It says by two relations of its own what a fix, and a tick, answers a client and adds to the client's list. What is
 /// promised by them of any pool can be kept only by these calls: so each answer of a waiting fix is one that was given.
 pub trait Asked<N: PoolName, K: ListKeeper> {
-    ghost use Rattle.std.specs.Prelude.{◌≡◌, ◌≢◌, ◌≤◌, ◌<◌};
+    ghost use Rattle.std.specs.Prelude.{◌≡◌, ◌≢◌, ◌<◌};
     ghost use Rattle.bp_page.specs.declared.refusals.Refusal.TheVariants as Refusal;
     ghost use Rattle.bp_session_log.specs.Turns.{TickSaid};
-    ghost use Rattle.bp_shared.specs.Sessions.{DoesWorkSaid};
+    ghost use Rattle.bp_shared.specs.Sessions.{DoesWorkSaid, FreesRing};
     ghost use Rattle.bp_workers.specs.Tries.{Fixes, Ticks};
 
     // A fix of a page gives a client an answer, and leads from its list, as it was, to it, as it is.
@@ -47,7 +47,7 @@ pub trait Asked<N: PoolName, K: ListKeeper> {
         ensures client { session.new.client ≡ session.old.client }
         ensures before { session.new.before ≡ session.old.before }
         ensures seen { session.new.seen ≡ session.old.seen }
-        ensures free { session.old.free ≤ session.new.free }
+        ensures free { FreesRing result session.old.free session.new.free }
         ensures port { P.geometry_of port.new ≡ P.geometry_of port.old }
         ensures gives { fixes session.old.client page result session.old.said session.new.said }
         ensures work { result ≢ Err Refusal.UnknownTicket → DoesWorkSaid P.read_gives P.write_gives
@@ -58,7 +58,7 @@ pub trait Asked<N: PoolName, K: ListKeeper> {
         ensures client { session.new.client ≡ session.old.client }
         ensures before { session.new.before ≡ session.old.before }
         ensures seen { session.new.seen ≡ session.old.seen }
-        ensures free { session.old.free ≤ session.new.free }
+        ensures free { FreesRing result session.old.free session.new.free }
         ensures gives { ticks session.old.client n result session.old.said session.new.said }
         ensures outcome { TickSaid session.old.client n result session.old.said session.new.said };
 }
@@ -205,7 +205,7 @@ fn overcome<N: PoolName, K: ListKeeper, A: Asked<N, K>, L: DurableLog<N>, R: Wai
     ensures client { session.new.client ≡ session.old.client }
     ensures before { session.new.before ≡ session.old.before }
     ensures seen { session.new.seen ≡ session.old.seen }
-    ensures free { session.old.free ≤ session.new.free }
+    ensures free { MayFree session.old.free session.new.free }
     ensures lent { L.lent log.new ≡ L.lent log.old }
     ensures raises { RaisesWithin (L.durable_to log.old) (L.raised_to log.old)
         (L.durable_to log.new) (L.raised_to log.new) }
@@ -259,7 +259,7 @@ pub fn fix_durably<N: PoolName, P: Port, K: ListKeeper, A: Asked<N, K>, L: Durab
     ensures client { client.new.session.client ≡ client.old.session.client }
     ensures before { client.new.session.before ≡ client.old.session.before }
     ensures seen { client.new.session.seen ≡ client.old.session.seen }
-    ensures free { client.old.session.free ≤ client.new.session.free }
+    ensures free { FreesRing result client.old.session.free client.new.session.free }
     ensures port { P.geometry_of client.new.port ≡ P.geometry_of client.old.port }
     ensures lent { L.lent log.new ≡ L.lent log.old }
     ensures raises { RaisesWithin (L.durable_to log.old) (L.raised_to log.old)

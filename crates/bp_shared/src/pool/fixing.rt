@@ -13,11 +13,11 @@ use bp_session_log::{Fix, PendingRead, PendingWrite};
 use std::sync::Wait;
 
 impl<N: PoolName, K: ListKeeper> SharedPool<N, K> {
-    ghost use Rattle.std.specs.Prelude.{◌≡◌, ◌≢◌, ◌<◌, ◌≤◌};
+    ghost use Rattle.std.specs.Prelude.{◌≡◌, ◌≢◌, ◌<◌};
     ghost use Rattle.bp_session_log.specs.Books.{OwesRead, OwesWrite};
     ghost use Rattle.bp_session_log.specs.Turns.{FixTurn, LoadOutcome, WriteOutOutcome};
     ghost use Rattle.bp_core.specs.Work.{MadeBlank};
-    ghost use Rattle.bp_shared.specs.Sessions.{DoesWorkSaid, FixSaid};
+    ghost use Rattle.bp_shared.specs.Sessions.{AllFree, DoesWorkSaid, FixSaid, FreesRing};
 
     /// Brings a page's image with no lock held, ends the read, and wakes all that wait.
     fn load<P: Port, S: Source<P>, R: Wait>(
@@ -33,7 +33,7 @@ impl<N: PoolName, K: ListKeeper> SharedPool<N, K> {
         ensures client { session.new.client ≡ session.old.client }
         ensures before { session.new.before ≡ session.old.before }
         ensures seen { session.new.seen ≡ session.old.seen }
-        ensures free { session.old.free ≤ session.new.free }
+        ensures free { AllFree session.old.free session.new.free }
         ensures port { P.geometry_of port.new ≡ P.geometry_of port.old }
         ensures outcome { LoadOutcome S.gives ticket result session.old.said session.new.said
             port.old port.new }
@@ -59,7 +59,7 @@ impl<N: PoolName, K: ListKeeper> SharedPool<N, K> {
         ensures client { session.new.client ≡ session.old.client }
         ensures before { session.new.before ≡ session.old.before }
         ensures seen { session.new.seen ≡ session.old.seen }
-        ensures free { session.old.free ≤ session.new.free }
+        ensures free { AllFree session.old.free session.new.free }
         ensures port { P.geometry_of port.new ≡ P.geometry_of port.old }
         ensures outcome { WriteOutOutcome P.write_gives ticket result session.old.said
             session.new.said port.old port.new }
@@ -86,7 +86,7 @@ impl<N: PoolName, K: ListKeeper> SharedPool<N, K> {
         ensures client { session.new.client ≡ session.old.client }
         ensures before { session.new.before ≡ session.old.before }
         ensures seen { session.new.seen ≡ session.old.seen }
-        ensures free { session.old.free ≤ session.new.free }
+        ensures free { FreesRing result session.old.free session.new.free }
         ensures turn { FixTurn session.old.client page result session.old.said session.new.said }
     {
         session.book.reserve_for_event()?;
@@ -117,7 +117,7 @@ impl<N: PoolName, K: ListKeeper> SharedPool<N, K> {
         ensures client { session.new.client ≡ session.old.client }
         ensures before { session.new.before ≡ session.old.before }
         ensures seen { session.new.seen ≡ session.old.seen }
-        ensures free { session.old.free ≤ session.new.free }
+        ensures free { FreesRing result session.old.free session.new.free }
         ensures port { P.geometry_of port.new ≡ P.geometry_of port.old }
         ensures outcome { FixSaid session.old.client page result session.old.said session.new.said }
         ensures work { result ≢ Err Refusal.UnknownTicket → DoesWorkSaid P.read_gives P.write_gives
@@ -144,7 +144,7 @@ impl<N: PoolName, K: ListKeeper> SharedPool<N, K> {
         ensures client { session.new.client ≡ session.old.client }
         ensures before { session.new.before ≡ session.old.before }
         ensures seen { session.new.seen ≡ session.old.seen }
-        ensures free { session.old.free ≤ session.new.free }
+        ensures free { FreesRing result session.old.free session.new.free }
         ensures port { P.geometry_of port.new ≡ P.geometry_of port.old }
         ensures outcome { FixSaid session.old.client page result session.old.said session.new.said }
         ensures work { result ≢ Err Refusal.UnknownTicket → DoesWorkSaid
@@ -169,7 +169,7 @@ impl<N: PoolName, K: ListKeeper> SharedPool<N, K> {
         ensures client { session.new.client ≡ session.old.client }
         ensures before { session.new.before ≡ session.old.before }
         ensures seen { session.new.seen ≡ session.old.seen }
-        ensures free { session.old.free ≤ session.new.free }
+        ensures free { FreesRing result session.old.free session.new.free }
         ensures port { P.geometry_of port.new ≡ P.geometry_of port.old }
         ensures outcome { FixSaid session.old.client page result session.old.said session.new.said }
         ensures work { result ≢ Err Refusal.UnknownTicket → DoesWorkSaid S.gives P.write_gives

@@ -11,9 +11,9 @@ use bp_ports::Port;
 use std::sync::Wait;
 
 impl<N: PoolName, K: ListKeeper> SharedPool<N, K> {
-    ghost use Rattle.std.specs.Prelude.{◌≡◌, Err, ◌≤◌};
+    ghost use Rattle.std.specs.Prelude.{◌≡◌, Err};
     ghost use Rattle.bp_shared.specs.FlushAll.{FlushAllSaid};
-    ghost use Rattle.bp_shared.specs.Sessions.{DoesWorkSaid};
+    ghost use Rattle.bp_shared.specs.Sessions.{AllFree, DoesWorkSaid};
 
     /// Writes each unsaved page out, in the order of the file, as `flush` does, with no lock held while the device
     /// works. Each page is the first that is unsaved from the one before on, when it is looked for. A page that was
@@ -31,7 +31,7 @@ impl<N: PoolName, K: ListKeeper> SharedPool<N, K> {
     ) -> Result<(), NotFlushed>
         ensures client { session.new.client ≡ session.old.client }
         ensures before { session.new.before ≡ session.old.before }
-        ensures free { session.old.free ≤ session.new.free }
+        ensures free { AllFree session.old.free session.new.free }
         ensures port { P.geometry_of port.new ≡ P.geometry_of port.old }
         ensures outcome { FlushAllSaid (record { parameters = N.parameters; start = N.past })
             result session.old session.new }

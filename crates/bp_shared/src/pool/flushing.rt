@@ -11,9 +11,9 @@ use bp_session_log::Flush;
 use std::sync::Wait;
 
 impl<N: PoolName, K: ListKeeper> SharedPool<N, K> {
-    ghost use Rattle.std.specs.Prelude.{◌≡◌, ◌≢◌, ◌<◌, ◌≤◌};
+    ghost use Rattle.std.specs.Prelude.{◌≡◌, ◌≢◌, ◌<◌};
     ghost use Rattle.bp_session_log.specs.Turns.{FlushTurn};
-    ghost use Rattle.bp_shared.specs.Sessions.{DoesWorkSaid, FlushSaid};
+    ghost use Rattle.bp_shared.specs.Sessions.{DoesWorkSaid, FlushSaid, FreesRing};
 
     /// Takes the memory for one more event, and asks that a page be written out in one critical section. `Busy` and
     /// `OutOfMemory` as from `ask_fix`.
@@ -27,7 +27,7 @@ impl<N: PoolName, K: ListKeeper> SharedPool<N, K> {
         ensures client { session.new.client ≡ session.old.client }
         ensures before { session.new.before ≡ session.old.before }
         ensures seen { session.new.seen ≡ session.old.seen }
-        ensures free { session.old.free ≤ session.new.free }
+        ensures free { FreesRing result session.old.free session.new.free }
         ensures turn { FlushTurn session.old.client page result session.old.said session.new.said }
     {
         session.book.reserve_for_event()?;
@@ -54,7 +54,7 @@ impl<N: PoolName, K: ListKeeper> SharedPool<N, K> {
         ensures client { session.new.client ≡ session.old.client }
         ensures before { session.new.before ≡ session.old.before }
         ensures seen { session.new.seen ≡ session.old.seen }
-        ensures free { session.old.free ≤ session.new.free }
+        ensures free { FreesRing result session.old.free session.new.free }
         ensures port { P.geometry_of port.new ≡ P.geometry_of port.old }
         ensures outcome { FlushSaid session.old.client page result
             session.old.said session.new.said }

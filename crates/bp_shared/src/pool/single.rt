@@ -12,7 +12,7 @@ use std::sync::Wait;
 impl<N: PoolName, K: ListKeeper> SharedPool<N, K> {
     ghost use Rattle.std.specs.Prelude.{◌≡◌, ◌≢◌, ◌+◌, ◌≤◌, false, length, IfOk};
     ghost use Rattle.bp_session_log.specs.Turns.{TickSaid, PurgeSaid, ReadSaid, ReadIntoSaid, WriteSaid};
-    ghost use Rattle.bp_shared.specs.Sessions.{IsRoomy};
+    ghost use Rattle.bp_shared.specs.Sessions.{FreesRing, IsRoomy};
 
     /// Moves the clock on by `n` ticks. `OutOfMemory`, `TrailFull` and `ClockFull` change nothing. A silent session
     /// answers `OutOfMemory` only where what it keeps for itself has to grow.
@@ -20,7 +20,7 @@ impl<N: PoolName, K: ListKeeper> SharedPool<N, K> {
         ensures client { session.new.client ≡ session.old.client }
         ensures before { session.new.before ≡ session.old.before }
         ensures seen { session.new.seen ≡ session.old.seen }
-        ensures free { session.old.free ≤ session.new.free }
+        ensures free { FreesRing result session.old.free session.new.free }
         ensures outcome { TickSaid session.old.client n result session.old.said session.new.said }
         ensures memory { K.REFUSES ≡ false → IsRoomy session.old
             → result ≢ Err Refusal.OutOfMemory }
@@ -36,7 +36,7 @@ impl<N: PoolName, K: ListKeeper> SharedPool<N, K> {
         ensures client { session.new.client ≡ session.old.client }
         ensures before { session.new.before ≡ session.old.before }
         ensures seen { session.new.seen ≡ session.old.seen }
-        ensures free { session.old.free ≤ session.new.free }
+        ensures free { FreesRing result session.old.free session.new.free }
         ensures outcome { PurgeSaid session.old.client result session.old.said session.new.said }
         ensures memory { K.REFUSES ≡ false → IsRoomy session.old
             → result ≢ Err Refusal.OutOfMemory }
@@ -58,7 +58,7 @@ impl<N: PoolName, K: ListKeeper> SharedPool<N, K> {
         ensures client { session.new.client ≡ session.old.client }
         ensures before { session.new.before ≡ session.old.before }
         ensures seen { session.new.seen ≡ session.old.seen }
-        ensures free { session.old.free ≤ session.new.free }
+        ensures free { FreesRing result session.old.free session.new.free }
         ensures size { IfOk result (λ image. length image ≡ N.parameters.size) }
         ensures stranger { pass.now.client ≢ session.old.client → result ≡ Err Refusal.UnknownPass }
         ensures outcome { ReadSaid session.old.client pass.now result
@@ -87,7 +87,7 @@ impl<N: PoolName, K: ListKeeper> SharedPool<N, K> {
         ensures client { session.new.client ≡ session.old.client }
         ensures before { session.new.before ≡ session.old.before }
         ensures seen { session.new.seen ≡ session.old.seen }
-        ensures free { session.old.free ≤ session.new.free }
+        ensures free { FreesRing result session.old.free session.new.free }
         ensures stranger { pass.now.client ≢ session.old.client → result ≡ Err Refusal.UnknownPass }
         ensures outcome { ReadIntoSaid session.old.client pass.now offset into.old result into.new
             session.old.said session.new.said }
@@ -117,7 +117,7 @@ impl<N: PoolName, K: ListKeeper> SharedPool<N, K> {
         ensures client { session.new.client ≡ session.old.client }
         ensures before { session.new.before ≡ session.old.before }
         ensures seen { session.new.seen ≡ session.old.seen }
-        ensures free { session.old.free ≤ session.new.free }
+        ensures free { FreesRing result session.old.free session.new.free }
         ensures stranger { pass.now.client ≢ session.old.client → result ≡ Err Refusal.UnknownPass }
         ensures outcome { WriteSaid session.old.client pass.now offset bytes.now lsn result
             session.old.said session.new.said }
@@ -141,7 +141,7 @@ impl<N: PoolName, K: ListKeeper> SharedPool<N, K> {
         ensures client { session.new.client ≡ session.old.client }
         ensures before { session.new.before ≡ session.old.before }
         ensures seen { session.new.seen ≡ session.old.seen }
-        ensures free { session.old.free ≤ session.new.free }
+        ensures free { FreesRing result session.old.free session.new.free }
         ensures stranger { pass.now.client ≢ session.old.client → result ≡ Err Refusal.UnknownPass }
         ensures outcome { WriteSaid session.old.client pass.now offset bytes.now lsn result
             session.old.said session.new.said }

@@ -19,7 +19,7 @@ loop-preserved c =
     let in_one = c.push_reserved.ensures in
     let out_one = c.push_reserved-in-loop.ensures in
     record {
-      rings = ring_more _ _ _ _ c.in_ok-producer.producer c.in_ok-producer.consumer i.rings in_one.items out_one.items (search rules) (made.producer.0, made.producer.1) made.consumer.0;
+      rings = ring_more _ _ _ _ c.in_ok-producer.producer c.in_ok-producer.consumer i.rings in_one.items out_one.items (search rules) made.producer made.consumer.0;
       count = omega (arith, i.count, ap length in_one.items, length-append c.loop.producers.items (c.in_ok-producer.producer ∷ []));
       beside = omega (arith, i.beside, out_one.len);
       room = omega (arith, i.room, in_one.capacity);

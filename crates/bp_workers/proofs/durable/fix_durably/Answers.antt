@@ -1,15 +1,16 @@
 -- Try after try.
-use Rattle.std.proofs.Common.{arith, refl, ap, ◌∙◌, Err}
+use Rattle.std.proofs.Common.{arith, refl, ap, ◌∙◌, Err, inl}
 use Rattle.std.proofs.lemmas.Result.{err_from_is_err_and}
+use Rattle.bp_shared.proofs.Freeing.{all_more, frees_more, may_free, may_more}
 use Rattle.bp_shared.proofs.Working.{none-yet}
 use Rattle.bp_workers.proofs.Raising.{raises-none, raises-then}
-use Rattle.bp_workers.proofs.Trying.{leads-none, leads-more, leads-fixed, leads-given_up, leads-end, goes-on-known, gives-up-known}
+use Rattle.bp_workers.proofs.Trying.{leads-none, leads-more, leads-fixed, leads-given_up, leads-end, goes-on-known, gives-up-known, gives-up-frees}
 use Rattle.bp_shared.proofs.Working.{work-on}
 use Rattle.bp_workers.proofs.Working.{goes-on-work, gives-up-work}
 use Rattle.bp_workers.proofs.durable.fix_durably.Goals as goal
 
 pub loop-round-init : goal.loop-round-init
-loop-round-init g c = record { client = refl; before = refl; seen = refl; free = omega arith; port = refl; lent = refl; raises = raises-none _ _; leads = leads-none _ _ _ _ _ _ _ _; work = none-yet _ _ _ _ }
+loop-round-init g c = record { client = refl; before = refl; seen = refl; free = inl refl; port = refl; lent = refl; raises = raises-none _ _; leads = leads-none _ _ _ _ _ _ _ _; work = none-yet _ _ _ _ }
 
 pub loop-round-preserved : goal.loop-round-preserved
 loop-round-preserved g c =
@@ -21,7 +22,7 @@ loop-round-preserved g c =
       client = c.overcome.ensures.client ∙ c.ask_fix.ensures.client ∙ i.client;
       before = c.overcome.ensures.before ∙ c.ask_fix.ensures.before ∙ i.before;
       seen = c.overcome.ensures.seen ∙ c.ask_fix.ensures.seen ∙ i.seen;
-      free = omega (arith, c.overcome.ensures.free, c.ask_fix.ensures.free, i.free);
+      free = may_more _ _ _ (may_more _ _ _ i.free (may_free _ _ _ c.ask_fix.ensures.free)) c.overcome.ensures.free;
       port = c.ask_fix.ensures.port ∙ i.port;
       lent = c.overcome.ensures.lent ∙ i.lent;
       raises = raises-then _ _ _ _ _ _ i.raises c.overcome.ensures.raises;
@@ -36,7 +37,7 @@ returns-in-Ok g c =
       client = c.ask_fix.ensures.client ∙ i.client;
       before = c.ask_fix.ensures.before ∙ i.before;
       seen = c.ask_fix.ensures.seen ∙ i.seen;
-      free = omega (arith, c.ask_fix.ensures.free, i.free);
+      free = all_more _ _ _ i.free c.in-Ok.ensures.free;
       port = c.ask_fix.ensures.port ∙ i.port;
       lent = i.lent;
       raises = i.raises;
@@ -55,7 +56,7 @@ returns-in_err-overcome-in-Err g c =
       client = c.overcome.ensures.client ∙ c.ask_fix.ensures.client ∙ i.client;
       before = c.overcome.ensures.before ∙ c.ask_fix.ensures.before ∙ i.before;
       seen = c.overcome.ensures.seen ∙ c.ask_fix.ensures.seen ∙ i.seen;
-      free = omega (arith, c.overcome.ensures.free, c.ask_fix.ensures.free, i.free);
+      free = rw (is.1 ∙ ap Err is.2) (frees_more _ _ _ _ i.free (gives-up-frees _ _ _ _ c.in-Err.why _ _ _ _ _ _ _ ends c.in-Err.ensures.free c.overcome.ensures.free));
       port = c.ask_fix.ensures.port ∙ i.port;
       lent = c.overcome.ensures.lent ∙ i.lent;
       raises = raises-then _ _ _ _ _ _ i.raises c.overcome.ensures.raises;
@@ -71,7 +72,7 @@ returns g c =
       client = c.ask_fix-2.ensures.client ∙ i.client;
       before = c.ask_fix-2.ensures.before ∙ i.before;
       seen = c.ask_fix-2.ensures.seen ∙ i.seen;
-      free = omega (arith, c.ask_fix-2.ensures.free, i.free);
+      free = frees_more _ _ _ _ i.free c.ask_fix-2.ensures.free;
       port = c.ask_fix-2.ensures.port ∙ i.port;
       lent = i.lent;
       raises = i.raises;

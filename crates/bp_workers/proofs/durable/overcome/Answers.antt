@@ -1,5 +1,5 @@
 -- A refusal that nothing here overcomes is answered.
-use Rattle.std.proofs.Common.{◌≡◌, ◌≢◌, arith, refl, ℕ, Bool}
+use Rattle.std.proofs.Common.{◌≡◌, ◌≢◌, refl, ℕ, Bool, inl}
 use Rattle.bp_page.specs.declared.refusals.Refusal.{Refusal}
 use Rattle.bp_page.specs.declared.refusals.Refusal.TheVariants as refusal
 use Rattle.bp_trail.specs.Trail.{Trail}
@@ -19,7 +19,7 @@ returns-in_default g c =
       client = refl;
       before = refl;
       seen = refl;
-      free = omega arith;
+      free = inl refl;
       lent = refl;
       raises = raises-none _ _;
       goes_on = tt;

@@ -1,5 +1,6 @@
 -- Both lines of the session are written: with its list, and with the trail.
-use Rattle.std.proofs.Common.{arith, refl}
+use Rattle.std.proofs.Common.{◌≡◌, arith}
+use Rattle.rtrb.specs.Ring.{known_free}
 use Rattle.bp_shared.proofs.Telling.{shown_again, line_earlier, earlier_seen}
 use Rattle.bp_shared.proofs.locked_pool.LockedPool.show.Goals as goal
 
@@ -16,8 +17,21 @@ invariant_of-self g c = (
 pub returns-clause-sees : goal.returns-clause-sees
 returns-clause-sees g c =
     let legal = rw c.self.invariant.0.parameters_are at c.keeps_the_rules.ensures.legal in
+    let s = c.session.inside in
+    let places : known_free s.producer ≡ 32 = rw (← c.session.view_is) at c.requires.entered.emptied in
     rw (← c.session.view_is) (rw c.write-2.ensures.list_is (record {
-      same = refl;
+      same = λ i. record {
+        client = s.book.client;
+        before = s.book.before;
+        said = s.book.said;
+        seen = c.self.inside.core.past;
+        free = places i;
+        room = s.book.entries;
+        passes = s.book.passes;
+        copies = s.book.copies;
+        places = s.book.places;
+        kept = s.book.kept;
+      };
       free = omega arith;
       legal = legal;
       list_is = rw (← c.self.view_is, ← c.session.view_is) at c.requires.entered.list_is;

@@ -1,8 +1,9 @@
 -- Where memory is refused, nothing is asked.
-use Rattle.std.proofs.Common.{◌≡◌, refl, ◌∙◌, sym, ap, subst, ℕ, ◌≤◌, arith}
+use Rattle.std.proofs.Common.{◌≡◌, refl, ◌∙◌, ap, Err}
+use Rattle.std.proofs.lemmas.Result.{err_from_is_err_and}
 use Rattle.bp_page.specs.declared.refusals.Refusal.TheVariants as refusal
 use Rattle.bp_shared.specs.Sessions.{SessionValue}
-use Rattle.rtrb.specs.Ring.{known_free}
+use Rattle.bp_shared.proofs.Freeing.{freed, unasked}
 use Rattle.bp_shared.proofs.Turning.{flush_no_memory}
 use Rattle.bp_shared.proofs.pool.SharedPool.ask_flush.Goals as goal
 
@@ -11,11 +12,12 @@ returns-in_err-reserve_for_event g c =
     let same = c.in_err-reserve_for_event.ensures.same in
     let why = c.in_err-reserve_for_event.field-0.0 in
     let memory : why ≡ refusal.OutOfMemory = (let is = c.in_err-reserve_for_event.ensures.refused in cc) in
+    let is = err_from_is_err_and c.from_residual.result c.from_residual.ensures.1 in
     rw (← c.session.view_is) (record {
       client = same.client;
       before = same.before;
       seen = refl;
-      free = omega arith;
+      free = unasked _ _ (is.1 ∙ ap Err (is.2 ∙ memory));
       turn = flush_no_memory _ _ c.from_residual.result why _ _ c.from_residual.ensures.1 memory same.said;
     })
 
@@ -30,6 +32,6 @@ returns g c =
       client = done.client ∙ client;
       before = done.before ∙ ap (λ (s : SessionValue). s.before) entered.session ∙ same.before;
       seen = done.seen ∙ ap (λ (s : SessionValue). s.seen) entered.session;
-      free = subst (λ (n : ℕ). known_free c.session.inside.producer ≤ n) (sym done.free) entered.free;
+      free = freed _ _ _ (entered.free, done.free ∙ ap (λ (s : SessionValue). s.free) entered.session);
       turn = rw (client, said) at done.turn;
     })

@@ -1,13 +1,16 @@
 -- Turn after turn.
-use Rattle.std.proofs.Common.{refl, sym, ap, subst, ◌∙◌, Err, arith}
+use Rattle.std.proofs.Common.{refl, sym, ap, subst, ◌∙◌, Err, inl, inr}
 use Rattle.std.proofs.lemmas.Result.{err_from_is_err_and}
+use Rattle.bp_core.specs.declared.passes.Pass.{Pass}
+use Rattle.bp_session_log.specs.declared.pending.Fix.{Fix as Fixing}
 use Rattle.bp_shared.specs.Sessions.{FixSaid}
+use Rattle.bp_shared.proofs.Freeing.{freed, may_free, all_more, may_more, refused_more}
 use Rattle.bp_shared.proofs.Fixing.{waits_none, turn_more, hit_said, busy_waits, refused_said, load_said, written_waits, unwritten_said}
 use Rattle.bp_shared.proofs.Working.{none-yet, fix-turn-work, load-work, write-work, began-by-fix, unerr}
 use Rattle.bp_shared.proofs.pool.SharedPool.fix_from.Goals as goal
 
 pub loop-init : goal.loop-init
-loop-init g c = record { client = refl; before = refl; seen = refl; free = omega arith; port = refl; waits = waits_none _ _ _; work = none-yet _ _ _ _ }
+loop-init g c = record { client = refl; before = refl; seen = refl; free = inl refl; port = refl; waits = waits_none _ _ _; work = none-yet _ _ _ _ }
 
 pub returns-in-Ok-Hit : goal.returns-in-Ok-Hit
 returns-in-Ok-Hit g c =
@@ -17,7 +20,7 @@ returns-in-Ok-Hit g c =
       client = c.ask_fix.ensures.client ∙ i.client;
       before = c.ask_fix.ensures.before ∙ i.before;
       seen = c.ask_fix.ensures.seen ∙ i.seen;
-      free = omega (arith, c.ask_fix.ensures.free, i.free);
+      free = all_more _ _ _ i.free c.in-Ok-Hit.ensures.free;
       port = i.port;
       outcome = hit_said _ _ c.in-Ok-Hit.pass _ _ (turn_more _ _ _ _ _ _ i.waits t);
       work = λ known. fix-turn-work _ _ _ _ _ _ _ _ _ _ i.work t;
@@ -31,7 +34,7 @@ returns-in-Ok-Load g c =
       client = c.load.ensures.client ∙ c.ask_fix.ensures.client ∙ i.client;
       before = c.load.ensures.before ∙ c.ask_fix.ensures.before ∙ i.before;
       seen = c.load.ensures.seen ∙ c.ask_fix.ensures.seen ∙ i.seen;
-      free = omega (arith, c.load.ensures.free, c.ask_fix.ensures.free, i.free);
+      free = freed _ _ _ (all_more _ _ _ (may_more _ _ _ i.free (may_free _ _ _ c.ask_fix.ensures.free)) c.load.ensures.free);
       port = c.load.ensures.port ∙ i.port;
       outcome = load_said _ _ _ _ _ c.in-Ok-Load.ticket _ _ _ _ _ (turn_more _ _ _ _ _ _ i.waits t) c.load.ensures.outcome;
       work = λ known. load-work _ _ c.in-Ok-Load.ticket _ _ _ _ _ _ _ (fix-turn-work _ _ _ _ _ _ _ _ _ _ i.work t) c.load.ensures.outcome known;
@@ -46,7 +49,7 @@ loop-preserved-in_ok-write_out-in-Ok-WriteFirst g c =
       client = c.write_out.ensures.client ∙ c.ask_fix.ensures.client ∙ i.client;
       before = c.write_out.ensures.before ∙ c.ask_fix.ensures.before ∙ i.before;
       seen = c.write_out.ensures.seen ∙ c.ask_fix.ensures.seen ∙ i.seen;
-      free = omega (arith, c.write_out.ensures.free, c.ask_fix.ensures.free, i.free);
+      free = inr (all_more _ _ _ (may_more _ _ _ i.free (may_free _ _ _ c.ask_fix.ensures.free)) c.write_out.ensures.free);
       port = c.write_out.ensures.port ∙ i.port;
       waits = written_waits _ _ _ _ _ c.in-Ok-WriteFirst.ticket _ _ _ _ (turn_more _ _ _ _ _ _ i.waits t) o;
       work = write-work _ _ c.in-Ok-WriteFirst.ticket _ _ _ _ _ _ _ (fix-turn-work _ _ _ _ _ _ _ _ _ _ i.work t) (began-by-fix _ _ c.in-Ok-WriteFirst.ticket _ _ t) o (λ unknown. absurd (let no = unknown in cc));
@@ -62,7 +65,7 @@ returns-in_err-write_out-in-Ok-WriteFirst g c =
       client = c.write_out.ensures.client ∙ c.ask_fix.ensures.client ∙ i.client;
       before = c.write_out.ensures.before ∙ c.ask_fix.ensures.before ∙ i.before;
       seen = c.write_out.ensures.seen ∙ c.ask_fix.ensures.seen ∙ i.seen;
-      free = omega (arith, c.write_out.ensures.free, c.ask_fix.ensures.free, i.free);
+      free = freed _ _ _ (all_more _ _ _ (may_more _ _ _ i.free (may_free _ _ _ c.ask_fix.ensures.free)) c.write_out.ensures.free);
       port = c.write_out.ensures.port ∙ i.port;
       outcome = subst (λ r. FixSaid c.args.session.now.client c.args.page r c.args.session.now.said c.write_out.new.session.said) (sym (is.1 ∙ ap Err is.2))
           (unwritten_said _ _ _ _ _ c.in-Ok-WriteFirst.ticket c.in_err-write_out-in-Ok-WriteFirst.field-0.0 _ _ _ (turn_more _ _ _ _ _ _ i.waits t) o);
@@ -73,10 +76,10 @@ pub loop-preserved : goal.loop-preserved
 loop-preserved g c =
     let i = c.loop.invariant in
     let t = rw (c.in-Busy.is, i.client) at c.in-Err.ensures.turn in
-    record { client = c.ask_fix.ensures.client ∙ i.client; before = c.ask_fix.ensures.before ∙ i.before; seen = c.ask_fix.ensures.seen ∙ i.seen; free = omega (arith, c.ask_fix.ensures.free, i.free); port = i.port; waits = busy_waits _ _ _ _ (turn_more _ _ _ _ _ _ i.waits t); work = fix-turn-work _ _ _ _ _ _ _ _ _ _ i.work t }
+    record { client = c.ask_fix.ensures.client ∙ i.client; before = c.ask_fix.ensures.before ∙ i.before; seen = c.ask_fix.ensures.seen ∙ i.seen; free = may_more _ _ _ i.free (may_free _ _ _ c.ask_fix.ensures.free); port = i.port; waits = busy_waits _ _ _ _ (turn_more _ _ _ _ _ _ i.waits t); work = fix-turn-work _ _ _ _ _ _ _ _ _ _ i.work t }
 
 pub returns-in_default : goal.returns-in_default
 returns-in_default g c =
     let i = c.loop.invariant in
     let t = rw i.client at c.in-Err.ensures.turn in
-    record { client = c.ask_fix.ensures.client ∙ i.client; before = c.ask_fix.ensures.before ∙ i.before; seen = c.ask_fix.ensures.seen ∙ i.seen; free = omega (arith, c.ask_fix.ensures.free, i.free); port = i.port; outcome = refused_said _ _ c.in-Err.refusal _ _ c.in_default.not-Busy (turn_more _ _ _ _ _ _ i.waits t); work = λ known. fix-turn-work _ _ _ _ _ _ _ _ _ _ i.work t }
+    record { client = c.ask_fix.ensures.client ∙ i.client; before = c.ask_fix.ensures.before ∙ i.before; seen = c.ask_fix.ensures.seen ∙ i.seen; free = refused_more Fixing Pass _ _ _ _ i.free c.in-Err.ensures.free; port = i.port; outcome = refused_said _ _ c.in-Err.refusal _ _ c.in_default.not-Busy (turn_more _ _ _ _ _ _ i.waits t); work = λ known. fix-turn-work _ _ _ _ _ _ _ _ _ _ i.work t }

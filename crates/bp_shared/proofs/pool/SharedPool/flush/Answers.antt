@@ -1,13 +1,16 @@
 -- Turn after turn.
-use Rattle.std.proofs.Common.{refl, sym, ap, subst, ◌∙◌, Err, arith}
+use Rattle.std.proofs.Common.{refl, sym, ap, subst, ◌∙◌, Err, inl}
 use Rattle.std.proofs.lemmas.Result.{err_from_is_err_and}
+use Rattle.bp_trail.specs.declared.ends.Flushed.{Flushed}
+use Rattle.bp_session_log.specs.declared.pending.Flush.{Flush as Flushing}
 use Rattle.bp_shared.specs.Sessions.{FlushSaid}
+use Rattle.bp_shared.proofs.Freeing.{freed, may_free, all_more, may_more, refused_more}
 use Rattle.bp_shared.proofs.Flushing.{flush_waits_none, flush_turn_more, clean_said, absent_said, flush_busy_waits, flush_refused_said, flushed_said, unflushed_said}
 use Rattle.bp_shared.proofs.Working.{none-yet, flush-turn-work, write-work, began-by-flush, unerr}
 use Rattle.bp_shared.proofs.pool.SharedPool.flush.Goals as goal
 
 pub loop-init : goal.loop-init
-loop-init g c = record { client = refl; before = refl; seen = refl; free = omega arith; port = refl; waits = flush_waits_none _ _ _; work = none-yet _ _ _ _ }
+loop-init g c = record { client = refl; before = refl; seen = refl; free = inl refl; port = refl; waits = flush_waits_none _ _ _; work = none-yet _ _ _ _ }
 
 pub returns-in-Ok-Clean : goal.returns-in-Ok-Clean
 returns-in-Ok-Clean g c =
@@ -17,7 +20,7 @@ returns-in-Ok-Clean g c =
       client = c.ask_flush.ensures.client ∙ i.client;
       before = c.ask_flush.ensures.before ∙ i.before;
       seen = c.ask_flush.ensures.seen ∙ i.seen;
-      free = omega (arith, c.ask_flush.ensures.free, i.free);
+      free = all_more _ _ _ i.free c.in-Ok-Clean.ensures.free;
       port = i.port;
       outcome = clean_said _ _ _ _ (flush_turn_more _ _ _ _ _ _ i.waits t);
       work = λ known. flush-turn-work _ _ _ _ _ _ _ _ _ _ i.work t;
@@ -31,7 +34,7 @@ returns-in-Ok-Absent g c =
       client = c.ask_flush.ensures.client ∙ i.client;
       before = c.ask_flush.ensures.before ∙ i.before;
       seen = c.ask_flush.ensures.seen ∙ i.seen;
-      free = omega (arith, c.ask_flush.ensures.free, i.free);
+      free = all_more _ _ _ i.free c.in-Ok-Absent.ensures.free;
       port = i.port;
       outcome = absent_said _ _ _ _ (flush_turn_more _ _ _ _ _ _ i.waits t);
       work = λ known. flush-turn-work _ _ _ _ _ _ _ _ _ _ i.work t;
@@ -46,7 +49,7 @@ returns-in-Ok-WriteFirst g c =
       client = c.write_out.ensures.client ∙ c.ask_flush.ensures.client ∙ i.client;
       before = c.write_out.ensures.before ∙ c.ask_flush.ensures.before ∙ i.before;
       seen = c.write_out.ensures.seen ∙ c.ask_flush.ensures.seen ∙ i.seen;
-      free = omega (arith, c.write_out.ensures.free, c.ask_flush.ensures.free, i.free);
+      free = all_more _ _ _ (may_more _ _ _ i.free (may_free _ _ _ c.ask_flush.ensures.free)) c.write_out.ensures.free;
       port = c.write_out.ensures.port ∙ i.port;
       outcome = flushed_said _ _ _ _ _ c.in-Ok-WriteFirst.ticket c.in_ok-ended-in-Ok-WriteFirst.ended c.flushed.result _ _ _ (flush_turn_more _ _ _ _ _ _ i.waits t) c.flushed.ensures o;
       work = λ known. write-work _ _ c.in-Ok-WriteFirst.ticket _ _ _ _ _ _ _ (flush-turn-work _ _ _ _ _ _ _ _ _ _ i.work t) (began-by-flush _ _ c.in-Ok-WriteFirst.ticket _ _ t) o (λ unknown. absurd (let no = unknown in cc));
@@ -62,7 +65,7 @@ returns-in_err-ended-in-Ok-WriteFirst g c =
       client = c.write_out.ensures.client ∙ c.ask_flush.ensures.client ∙ i.client;
       before = c.write_out.ensures.before ∙ c.ask_flush.ensures.before ∙ i.before;
       seen = c.write_out.ensures.seen ∙ c.ask_flush.ensures.seen ∙ i.seen;
-      free = omega (arith, c.write_out.ensures.free, c.ask_flush.ensures.free, i.free);
+      free = freed _ _ _ (all_more _ _ _ (may_more _ _ _ i.free (may_free _ _ _ c.ask_flush.ensures.free)) c.write_out.ensures.free);
       port = c.write_out.ensures.port ∙ i.port;
       outcome = subst (λ r. FlushSaid c.args.session.now.client c.args.page r c.args.session.now.said c.write_out.new.session.said) (sym (is.1 ∙ ap Err is.2))
           (unflushed_said _ _ _ _ _ c.in-Ok-WriteFirst.ticket c.in_err-ended-in-Ok-WriteFirst.field-0.0 _ _ _ (flush_turn_more _ _ _ _ _ _ i.waits t) o);
@@ -73,10 +76,10 @@ pub loop-preserved : goal.loop-preserved
 loop-preserved g c =
     let i = c.loop.invariant in
     let t = rw (c.in-Busy.is, i.client) at c.in-Err.ensures.turn in
-    record { client = c.ask_flush.ensures.client ∙ i.client; before = c.ask_flush.ensures.before ∙ i.before; seen = c.ask_flush.ensures.seen ∙ i.seen; free = omega (arith, c.ask_flush.ensures.free, i.free); port = i.port; waits = flush_busy_waits _ _ _ _ (flush_turn_more _ _ _ _ _ _ i.waits t); work = flush-turn-work _ _ _ _ _ _ _ _ _ _ i.work t }
+    record { client = c.ask_flush.ensures.client ∙ i.client; before = c.ask_flush.ensures.before ∙ i.before; seen = c.ask_flush.ensures.seen ∙ i.seen; free = may_more _ _ _ i.free (may_free _ _ _ c.ask_flush.ensures.free); port = i.port; waits = flush_busy_waits _ _ _ _ (flush_turn_more _ _ _ _ _ _ i.waits t); work = flush-turn-work _ _ _ _ _ _ _ _ _ _ i.work t }
 
 pub returns-in_default : goal.returns-in_default
 returns-in_default g c =
     let i = c.loop.invariant in
     let t = rw i.client at c.in-Err.ensures.turn in
-    record { client = c.ask_flush.ensures.client ∙ i.client; before = c.ask_flush.ensures.before ∙ i.before; seen = c.ask_flush.ensures.seen ∙ i.seen; free = omega (arith, c.ask_flush.ensures.free, i.free); port = i.port; outcome = flush_refused_said _ _ c.in-Err.refusal _ _ c.in_default.not-Busy (flush_turn_more _ _ _ _ _ _ i.waits t); work = λ known. flush-turn-work _ _ _ _ _ _ _ _ _ _ i.work t }
+    record { client = c.ask_flush.ensures.client ∙ i.client; before = c.ask_flush.ensures.before ∙ i.before; seen = c.ask_flush.ensures.seen ∙ i.seen; free = refused_more Flushing Flushed _ _ _ _ i.free c.in-Err.ensures.free; port = i.port; outcome = flush_refused_said _ _ c.in-Err.refusal _ _ c.in_default.not-Busy (flush_turn_more _ _ _ _ _ _ i.waits t); work = λ known. flush-turn-work _ _ _ _ _ _ _ _ _ _ i.work t }

@@ -1,11 +1,12 @@
 -- Each flush is one page more.
-use Rattle.std.proofs.Common.{refl, ◌∙◌, ap, arith}
+use Rattle.std.proofs.Common.{refl, ◌∙◌, ap, arith, inl, inr}
 use Rattle.bp_shared.specs.FlushAll.FlushesEach.{none, page}
+use Rattle.bp_shared.proofs.Freeing.{all_more}
 use Rattle.bp_shared.proofs.Working.{none-yet, work-on, why-of}
 use Rattle.bp_shared.proofs.pool.SharedPool.flush_all.Goals as goal
 
 pub loop-page-init : goal.loop-page-init
-loop-page-init g c = record { client = refl; before = refl; free = omega arith; port = refl; flushed = none; work = none-yet _ _ _ _ }
+loop-page-init g c = record { client = refl; before = refl; free = inl refl; port = refl; flushed = none; work = none-yet _ _ _ _ }
 
 pub overflow_add-from : goal.overflow_add-from
 overflow_add-from g c = let few = c.in-Some.ensures.few in omega (arith, few, c.number-from.ensures)
@@ -18,7 +19,7 @@ loop-page-preserved g c =
     record {
       client = f.client ∙ ap (λ s. s.client) s ∙ i.client;
       before = f.before ∙ ap (λ s. s.before) s ∙ i.before;
-      free = omega (arith, f.free, c.in-Some.ensures.sees.free, i.free);
+      free = inr (all_more _ _ _ (inr (all_more _ _ _ i.free (c.in-Some.ensures.sees.free, ap (λ s. s.free) s))) f.free);
       port = f.port ∙ i.port;
       flushed = rw c.number-from.ensures (page c.in-Some.page c.in-Ok.field-0 _ i.flushed (record { sees = c.in-Some.ensures.sees; found = c.in-Some.ensures.found }) (record { client = f.client; seen = f.seen; said = f.outcome }));
       work = work-on _ _ _ _ _ _ _ _ i.work (rw (ap (λ s. s.said) s) at (f.work (λ unknown. absurd (let no = unknown in cc))));

@@ -1,10 +1,10 @@
 -- Where memory is refused, nothing is asked.
-use Rattle.std.proofs.Common.{refl, sym, ap, subst, ◌∙◌, Err, ℕ, ◌≤◌, arith}
+use Rattle.std.proofs.Common.{refl, sym, ap, subst, ◌∙◌, Err}
 use Rattle.std.proofs.lemmas.Bool.{false≢true}
 use Rattle.std.proofs.lemmas.Result.{err_from_is_err_and}
 use Rattle.bp_session_log.specs.Turns.{TickSaid}
 use Rattle.bp_shared.specs.Sessions.{SessionValue}
-use Rattle.rtrb.specs.Ring.{known_free}
+use Rattle.bp_shared.proofs.Freeing.{freed, unasked}
 use Rattle.bp_shared.proofs.Working.{why-of}
 use Rattle.bp_shared.proofs.pool.SharedPool.tick.Goals as goal
 
@@ -17,7 +17,7 @@ returns-in_err-reserve_for_event g c =
       client = refused.same.client;
       before = refused.same.before;
       seen = refl;
-      free = omega arith;
+      free = unasked _ _ why;
       outcome = subst (λ r. TickSaid c.session.inside.book.client c.args.n r c.session.inside.book.said c.reserve_for_event.new.self.said) (sym why) refused.same.said;
       memory = λ silent roomy. absurd (false≢true (refused.memory silent roomy));
     })
@@ -33,7 +33,7 @@ returns g c =
       client = done.client ∙ client;
       before = done.before ∙ ap (λ (s : SessionValue). s.before) entered.session ∙ same.before;
       seen = done.seen ∙ ap (λ (s : SessionValue). s.seen) entered.session;
-      free = subst (λ (n : ℕ). known_free c.session.inside.producer ≤ n) (sym done.free) entered.free;
+      free = freed _ _ _ (entered.free, done.free ∙ ap (λ (s : SessionValue). s.free) entered.session);
       outcome = rw (client, said) at done.outcome;
       memory = λ silent roomy. done.memory;
     })

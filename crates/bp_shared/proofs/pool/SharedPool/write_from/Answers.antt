@@ -1,10 +1,10 @@
 -- Where memory is refused, nothing is asked.
-use Rattle.std.proofs.Common.{refl, sym, ap, subst, ◌∙◌, Err, ℕ, ◌≤◌, arith}
+use Rattle.std.proofs.Common.{refl, sym, ap, subst, ◌∙◌, Err}
 use Rattle.std.proofs.lemmas.Bool.{false≢true}
 use Rattle.std.proofs.lemmas.Result.{err_from_is_err_and}
 use Rattle.bp_session_log.specs.Turns.{WriteSaid}
 use Rattle.bp_shared.specs.Sessions.{SessionValue}
-use Rattle.rtrb.specs.Ring.{known_free}
+use Rattle.bp_shared.proofs.Freeing.{freed, unasked}
 use Rattle.bp_shared.proofs.Working.{why-of}
 use Rattle.bp_shared.proofs.pool.SharedPool.write_from.Goals as goal
 
@@ -18,7 +18,7 @@ returns-in_err-reserve_for_event g c =
       client = refused.same.client;
       before = refused.same.before;
       seen = refl;
-      free = omega arith;
+      free = unasked _ _ why;
       stranger = λ not. absurd (not own);
       outcome = subst (λ r. WriteSaid c.session.inside.book.client c.args.pass.now c.args.offset c.args.bytes.now c.args.lsn r c.session.inside.book.said c.reserve_for_event.new.self.said) (sym why) (own, refused.same.said);
       memory = λ silent roomy. absurd (false≢true (refused.memory silent roomy));
@@ -36,7 +36,7 @@ returns g c =
       client = done.client ∙ client;
       before = done.before ∙ ap (λ (s : SessionValue). s.before) entered.session ∙ same.before;
       seen = done.seen ∙ ap (λ (s : SessionValue). s.seen) entered.session;
-      free = subst (λ (n : ℕ). known_free c.session.inside.producer ≤ n) (sym done.free) entered.free;
+      free = freed _ _ _ (entered.free, done.free ∙ ap (λ (s : SessionValue). s.free) entered.session);
       stranger = λ not. absurd (not own);
       outcome = rw (client, said) at done.outcome;
       memory = λ silent roomy. done.memory silent;

@@ -19,4 +19,5 @@ invariant_of-self-2 g c =
       search rules,
       search rules,
       search rules,
+      search rules,
     )
