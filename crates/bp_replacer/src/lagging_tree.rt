@@ -8,6 +8,7 @@ use crate::marks::Marks;
 use crate::seat_list::SeatList;
 use crate::tournament::{Seat, Tournament, precedes};
 use crate::young::Young;
+use bp_page::PageNo;
 use std::alloc::{AllocError, Global};
 use std::marker::Model;
 
@@ -30,10 +31,12 @@ const SEATS_A_TAKE: usize = 128;
 /// lags behind its seat. A page that is referenced again only falls in the order: it stays where it was in the tree
 /// until it would come first there, and is put in its place then, by a walk up the tree from its seat.
 ///
-/// Whoever enters at a seat that the tree may not lag behind waits apart, in a queue by last time, so that no one who
-/// is too young hides the others in the tree. A look first takes out of the queue who came of age. One of them is kept
-/// in hand, out of the tree too: whoever comes first. So one that is replaced as soon as it is old enough takes no walk;
-/// each of the others takes one.
+/// Whoever enters at a seat that the tree may not lag behind waits apart, in a queue by last time, so that nobody who is
+/// too young hides the others in the tree. A look first takes out of the queue who came of age. One of them is kept in
+/// hand, out of the tree too: whoever comes first. So one that is replaced as soon as it is old enough takes no walk;
+/// each of the others takes one. A page that a look finds in a wrong place, and too young, waits apart as well, unless
+/// it is likely to be old enough before it comes first. Where it comes first too soon after all, the next look lets it
+/// wait, up to 16 pages a look.
 ///
 /// Where one look took 16 walks already, and the tree may lag behind one in 16 of the seats, a pass takes the place of
 /// the next walk: the tree copies all seats of those old enough, each node is computed once from scratch, and the others
@@ -85,9 +88,15 @@ fn same_seat(a: &Seat, b: &Seat) -> bool
     }
 }
 
-// Lets the candidate of a seat wait, if it was not last referenced before a time. Returns false, and changes nothing,
-// where it was, or does not wait.
-fn wait_from(young: &mut Young, seat: usize, entry: &Seat, time: u64) -> bool
+// Returns true if a candidate is likely to be old enough before it comes first, where `least` is the K-th stamp of who
+// comes first at this time: K-th stamps of victims rise about as the time does. No answer depends on it.
+fn ages_in_time(candidate: &(u64, u64, PageNo), time: u64, least: u64) -> bool {
+    candidate.0 >= least.saturating_add(candidate.1.saturating_sub(time))
+}
+
+// Lets the candidate of a seat wait, if it was not last referenced before a time, nor ages in time. Returns false, and
+// changes nothing, where it does not wait.
+fn wait_from(young: &mut Young, seat: usize, entry: &Seat, time: u64, least: u64) -> bool
     requires { seat < length young.old }
     ensures waits { IsTrue result → AreYoung (since young.new seat) entry.now }
     ensures refused { IsFalse result → young.new ≡ young.old }
@@ -95,12 +104,12 @@ fn wait_from(young: &mut Young, seat: usize, entry: &Seat, time: u64) -> bool
 {
     match entry {
         None => false,
-        Some(x) => x.1 >= time && young.wait(seat, x.1),
+        Some(x) => x.1 >= time && !ages_in_time(x, time, least) && young.wait(seat, x.1),
     }
 }
 
-// Lets each seat wait whose candidate was not last referenced before a time, and no other.
-fn renew(young: &mut Young, seats: &SeatList, time: u64)
+// Lets each seat wait whose candidate was not last referenced before a time, nor ages in time, and no other.
+fn renew(young: &mut Young, seats: &SeatList, time: u64, least: u64)
     requires { length young.old ≡ length seats.now }
     ensures { AreAnew time young.new seats.now }
 {
@@ -108,13 +117,13 @@ fn renew(young: &mut Young, seats: &SeatList, time: u64)
     let mut seat = 0usize;
     while seat < seats.len() {
         let entry = seats.find(seat);
-        wait_from(young, seat, &entry, time);
+        wait_from(young, seat, &entry, time, least);
         seat += 1;
     }
 }
 
 // Brings the tree up to date at one seat, by a walk, or at all seats, by a pass. Who was not last referenced before the
-// time waits apart instead. A number past the seats stands for none.
+// time, nor ages in time, waits apart instead. A number past the seats stands for none.
 fn settle(
     tree: &mut Tournament,
     seats: &SeatList,
@@ -122,6 +131,7 @@ fn settle(
     young: &mut Young,
     seat: usize,
     time: u64,
+    least: u64,
     all: bool,
 )
     requires as_many { length tree.old ≡ length seats.now }
@@ -129,7 +139,7 @@ fn settle(
     ensures { IsSettled tree.old young.old seats.now seat time tree.new young.new }
 {
     if all {
-        renew(young, seats, time);
+        renew(young, seats, time, least);
         tree.put_all(seats, young);
         behind.unset_all();
         return;
@@ -139,7 +149,7 @@ fn settle(
     }
     behind.unset(seat);
     let entry = seats.find(seat);
-    if !wait_from(young, seat, &entry, time) {
+    if !wait_from(young, seat, &entry, time, least) {
         tree.put(seat, entry);
     } else if tree.find(seat).is_some() {
         tree.put(seat, None);
@@ -213,7 +223,7 @@ impl LaggingTree {
             return;
         }
         self.behind.unset(seat);
-        if !wait_from(&mut self.young, seat, &entry, 0) {
+        if !wait_from(&mut self.young, seat, &entry, 0, u64::MAX) {
             self.tree.put(seat, entry);
         }
     }
@@ -226,6 +236,7 @@ impl LaggingTree {
         ensures first { IsFirst self.new (λ e. e.1 < time) result }
     {
         let many = self.seats.len() / SEATS_A_TAKE + FEW_TAKEN;
+        let least = self.tree.least_stamp();
         let mut taken = 0usize;
         while let Some(seat) = self.young.take_below(time) {
             let (kept, other) = sorted(&self.seats, self.hand, seat, time);
@@ -238,9 +249,27 @@ impl LaggingTree {
                 &mut self.young,
                 other,
                 time,
+                least,
                 all,
             );
             taken = taken.saturating_add(1);
+        }
+        let mut moved = 0usize;
+        while moved < FEW_WALKS {
+            let Some(seat) = self.tree.hiding(time) else {
+                break;
+            };
+            settle(
+                &mut self.tree,
+                &self.seats,
+                &mut self.behind,
+                &mut self.young,
+                seat,
+                time,
+                u64::MAX,
+                false,
+            );
+            moved += 1;
         }
         let mut walks = 0usize;
         loop {
@@ -260,6 +289,7 @@ impl LaggingTree {
                 &mut self.young,
                 seat,
                 time,
+                least,
                 all,
             );
             walks = walks.saturating_add(1);

@@ -1,4 +1,4 @@
-//! `Queue`: the pages that wait to be purged, the one of the least time first.
+//! `Queue`: what waits by time, the least time first: pages to be purged, and seats whose candidates are too young.
 ghost use Rattle.std.specs.Prelude.{◌≡◌, ◌<◌, ◌≤◌, [], ◌∷◌, All, IsTrue, IfSome, IfNone, OnOk, length};
 ghost use Rattle.std.specs.List.Sorted.{IsPermutation};
 
@@ -7,8 +7,8 @@ use std::cmp::Reverse;
 use std::collections::BinaryHeap;
 use std::marker::Model;
 
-/// Pages with times, of which the one of the least time is taken out first. A page may wait more than once. Putting
-/// one in or taking one out moves no more than one page a level of a binary tree, and only `reserve` takes memory.
+/// Pages, or seats, with times, of which the one of the least time is taken out first. One may wait more than once.
+/// Putting one in or taking one out moves no more than one a level of a binary tree, and only `reserve` takes memory.
 #[derive(Drop)]
 pub(crate) struct Queue {
     pages: BinaryHeap<Reverse<(u64, u64)>>,

@@ -17,12 +17,17 @@ use std::marker::Model;
 /// walk, or by a pass that does so at all seats at once. So a page takes one walk at most for all its hits since the
 /// walk or the pass before.
 ///
-/// A walk goes up as far as that changes what the tree knows, O(log frames) at most: `enter` takes one at most, and
-/// `leave` none. A pass looks at each seat and at two nodes for each, O(frames). `victim` takes 8 walks and a pass at
-/// most where the tree lags behind one in 16 of the seats, and else a walk for each seat that it lags behind. It looks
-/// again after each. With no correlated period, at a time that is not before any reference, the root knows the first.
-/// Else each look goes to O(log frames) nodes for each page that is still too young, and never to more than two for
-/// each frame. The memory is taken once, by `new`: 67 bytes a seat.
+/// Any other page that enters waits in a queue by the time of its newest reference, so that no page that is too young
+/// hides the others. `victim` takes out who came of age, each in O(log frames): one of them is kept beside the tree,
+/// and the others come into it, by a walk each. Where more come of age than 64 and one in 128 of the seats, a pass takes
+/// in the rest.
+///
+/// A walk goes up as far as that changes what the tree knows, O(log frames) at most. `leave` takes none, nor does
+/// `enter` while the queue has room, but for a page whose newest reference is at the time 0. A pass looks at each seat
+/// and at one node for each, O(frames). For the seats that the tree lags behind `victim` takes 16 walks and a pass at
+/// most where these are one in 16, and else a walk for each. It looks again after each. The root knows the first, where
+/// its own page is old enough; else a look goes to O(log frames) nodes for each page in the tree that is too young, and
+/// never to more than two for each frame. The memory is taken once, by `new`: 83 bytes a seat.
 #[derive(Drop)]
 pub struct Candidates {
     correlated: u64,

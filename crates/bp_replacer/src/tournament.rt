@@ -189,6 +189,25 @@ impl Tournament {
         }
     }
 
+    /// Returns the K-th stamp of the first candidate, or the greatest number where there is none. No answer depends on it.
+    pub fn least_stamp(&self) -> u64 {
+        match self.seats.at(node(&self.nodes, 1)) {
+            None => u64::MAX,
+            Some(entry) => entry.0,
+        }
+    }
+
+    /// Returns the seat of the first candidate, if that one was not last referenced before a time, and so hides others.
+    /// No answer depends on it.
+    pub fn hiding(&self, time: u64) -> Option<usize> {
+        let first = node(&self.nodes, 1);
+        if is_aged(&self.seats, first, time) {
+            None
+        } else {
+            Some(first)
+        }
+    }
+
     /// Puts a candidate on a seat, or empties it.
     pub fn put(&mut self, seat: usize, entry: Seat)
         requires { seat < length self.old }

@@ -54,3 +54,15 @@ loop-seat-2-preserved c =
       covered = settled_covered i.tree i.young i.seats seat c.args.time s.new.tree s.new.young v.length_is v.as_many s.ensures i.hand (λ k free other. v.covers k free);
       none_below = settled_none_below i.tree i.young i.seats seat c.args.time s.new.tree s.new.young v.length_is v.as_many s.ensures c.loop-seat-2.invariant.none_below;
     }
+
+pub loop-moved-preserved : goal.loop-moved-preserved
+loop-moved-preserved c =
+    let i = c.loop-moved.self-inside in
+    let v = c.loop-moved.invariant.covered in
+    let s = c.settle-in-loop-moved in
+    let seat = c.in-Some-hiding.seat in
+    record {
+      same = c.loop-moved.invariant.same;
+      covered = settled_covered i.tree i.young i.seats seat c.args.time s.new.tree s.new.young v.length_is v.as_many s.ensures i.hand (λ k free other. v.covers k free);
+      none_below = settled_none_below i.tree i.young i.seats seat c.args.time s.new.tree s.new.young v.length_is v.as_many s.ensures c.loop-moved.invariant.none_below;
+    }
