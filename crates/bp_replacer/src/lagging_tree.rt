@@ -31,17 +31,18 @@ const SEATS_A_TAKE: usize = 128;
 /// lags behind its seat. A page that is referenced again only falls in the order: it stays where it was in the tree
 /// until it would come first there, and is put in its place then, by a walk up the tree from its seat.
 ///
-/// Whoever enters at a seat that the tree may not lag behind waits apart, in a queue by last time, so that nobody who is
-/// too young hides the others in the tree. A look first takes out of the queue who came of age. One of them is kept in
-/// hand, out of the tree too: whoever comes first. So one that is replaced as soon as it is old enough takes no walk;
-/// each of the others takes one. A page that a look finds in a wrong place, and too young, waits apart as well, unless
+/// Whoever enters at a seat that the tree may not lag behind waits apart, in a queue by last time, so that nobody who
+/// is too young hides the others in the tree. A look first takes out of the queue who came of age. One of them is kept
+/// in hand, out of the tree too: whoever comes first. So one that is replaced as soon as it is old enough takes no
+/// walk; each of the others takes one. A page that a look finds in a wrong place, and too young, waits apart as well, unless
 /// it is likely to be old enough before it comes first. Where it comes first too soon after all, the next look lets it
 /// wait, up to 16 pages a look.
 ///
 /// Where one look took 16 walks already, and the tree may lag behind one in 16 of the seats, a pass takes the place of
-/// the next walk: the tree copies all seats of those old enough, each node is computed once from scratch, and the others
-/// wait anew. So it does where more than 64 and one in 128 of the seats came out of the queue in one look. So a pass
-/// comes to less than 32 nodes for each seat that was changed since the pass before, or 128 for each that came of age.
+/// the next walk: the tree copies the seats of all that do not wait, each node is computed once from scratch, and who
+/// is too young waits anew. So it does where more than 64 and one in 128 of the seats came out of the queue in one
+/// look. So a pass comes to less than 32 nodes for each seat that was changed since the pass before, or 128 for each
+/// that came of age.
 #[derive(Drop)]
 pub struct LaggingTree {
     seats: SeatList,

@@ -189,7 +189,8 @@ impl Tournament {
         }
     }
 
-    /// Returns the K-th stamp of the first candidate, or the greatest number where there is none. No answer depends on it.
+    /// Returns the K-th stamp of the first candidate, or the greatest number where there is none. No answer depends on
+    /// it.
     pub fn least_stamp(&self) -> u64 {
         match self.seats.at(node(&self.nodes, 1)) {
             None => u64::MAX,
