@@ -285,9 +285,14 @@ fn reckoned_trail() {
 
 /// What references come to in three frames: hits, faults and evictions.
 fn counts(k: u8, correlated: u64, references: &[u64]) -> (u64, u64, u64) {
+    counts_by(k, correlated, false, references)
+}
+
+fn counts_by(k: u8, correlated: u64, tells_each_pin: bool, references: &[u64]) -> (u64, u64, u64) {
     let config = SharedConfig {
         k,
         correlated,
+        tells_each_pin,
         ..config(3)
     };
     let pager = SharedPager::new(&config, Device::default()).unwrap();
@@ -309,6 +314,45 @@ fn periods_and_k_count_calls() {
     let as_one = [1, 1, 2, 2, 4, 3, 1, 2];
     assert_eq!(counts(2, 0, &as_one), (4, 4, 1));
     assert_eq!(counts(2, 1, &as_one), (2, 6, 3));
+}
+
+// Where each pin is told, the counts are those of LRU-K, in check/program.cases:
+// sweep_where_two_references_count_as_one, and the list above.
+#[test]
+fn each_pin_is_told() {
+    let as_one = [1, 1, 2, 2, 1, 4, 3, 1, 2];
+    assert_eq!(counts_by(2, 0, true, &as_one), (5, 4, 1));
+    assert_eq!(counts_by(2, 1, true, &as_one), (4, 5, 2));
+    let twice = [1, 2, 1, 2, 3, 4, 5, 6, 1, 2];
+    assert_eq!(counts_by(1, 0, true, &twice), (2, 8, 5));
+    assert_eq!(counts_by(2, 0, true, &twice), (4, 6, 3));
+}
+
+// Page 1 is used after page 2, but while it is pinned: that is a reference where each pin is told. With
+// one stamp page 2 makes way then, and else page 1.
+#[test]
+fn pin_of_a_pinned_page() {
+    for (tells_each_pin, stays) in [(true, 1), (false, 2)] {
+        let config = SharedConfig {
+            k: 1,
+            tells_each_pin,
+            ..config(2)
+        };
+        let pager = SharedPager::new(&config, Device::default()).unwrap();
+        let pin = pager.pin(1).unwrap();
+        drop(pager.read(2).unwrap());
+        drop(pager.read(1).unwrap());
+        drop(pager.pin(1).unwrap().read());
+        drop(pin);
+        drop(pager.read(3).unwrap());
+        let left: Vec<u64> = (1..3).filter(|page| pager.is_resident(*page)).collect();
+        assert_eq!(left, [stays]);
+        let totals = pager.stats().totals;
+        assert_eq!(
+            (totals.hits, totals.faults, pager.stats().pinned),
+            (2, 3, 0)
+        );
+    }
 }
 
 // With a correlated period without end no page is old enough, and the clock is moved for it.
