@@ -9,6 +9,10 @@ For each ROOM the trail has that room and is cut when half full; ROOM 0 is a tra
 `silent` one that is only counted. Each number is in fixes and unfixes a second of processor time. A ratio is of one
 round, above 1 where the proved pool is faster. The median of the rounds comes first, and then the least and the
 greatest.
+
+K is 2, and the correlated period is an eighth of the frames in fixes; it is told in ticks, of which there is one in 16
+fixes. Where pages are evicted a second row has no period, beside the same figures of Berkeley DB. Each pool is in its
+steady state: eight fixes for each frame come before those that count.
 """
 import os
 import re
@@ -20,8 +24,8 @@ import tempfile
 TOP = os.path.dirname(os.path.dirname(os.path.realpath(__file__)))
 BENCH = f"{TOP}/crates/bench/out/bench"
 FILE_BYTES = 268435456
-# For each column of `bench pool`: pages of the file, frames such that the hit rate is the same, hot pages.
-COLUMNS = [
+# What Berkeley DB is measured with: pages of the file, frames such that the hit rate is the same, hot pages.
+PEER = [
     ("hits, 256 frames", 256, 256, 256),
     ("evictions, 256 frames", 1024, 177, 1024),
     ("hits, 4,096 frames", 4096, 4096, 4096),
@@ -37,16 +41,28 @@ def said(words, folder):
 
 def ours(pages, room, folder):
     words = [BENCH, "pool", pages] + ([str(room)] if room else [])
-    return [int(it) for it in re.findall(r"pages: (\d+) fixes", said(words, folder))]
+    found = re.findall(r"period (\d+)\n\d+ pages: (\d+) fixes", said(words, folder))
+    if [int(period) for period, _ in found] != [period for _, period, _ in rows()]:
+        sys.exit("side_by_side.py: `bench pool` has other rows")
+    return [int(rate) for _, rate in found]
 
 
 def theirs(mpool, folder):
     """The rates of Berkeley DB's pool, each over one second of processor time."""
     rates = []
-    for _, *numbers, hot in COLUMNS:
+    for _, *numbers, hot in PEER:
         line = said([mpool, "1", *map(str, [*numbers, 1024, hot])], folder)
         rates.append(int(line.split()[0]))
     return rates
+
+
+def rows():
+    """What `bench pool` measures in its order: a name, the period in ticks, and the place of what it is beside."""
+    for at, (name, _, _, hot) in enumerate(PEER):
+        frames = hot // 4 if name.startswith("evictions") else hot
+        yield name, frames // 8 // 16, at
+        if name.startswith("evictions"):
+            yield name, 0, at
 
 
 def spread(values, digits=2):
@@ -57,13 +73,13 @@ def thousands(values):
     return f"{statistics.median(values) / 1000:,.0f}"
 
 
-def print_table(title, names, runs, peer):
+def print_table(title, runs, peer):
     print(title)
-    print("| | This pool, thousands a second | Berkeley DB | Ratio |\n|---|---|---|---|")
-    for at, name in enumerate(names):
-        mine, other = [it[at] for it in runs], [it[at] for it in peer]
+    print("| | K | Period | This pool, thousands a second | Berkeley DB | Ratio |\n|---|---|---|---|---|---|")
+    for row, (name, period, at) in enumerate(rows()):
+        mine, other = [it[row] for it in runs], [it[at] for it in peer]
         ratios = [a / b for a, b in zip(mine, other)]
-        print(f"| {name} | {thousands(mine)} | {thousands(other)} | {spread(ratios)} |")
+        print(f"| {name} | 2 | {period:,} | {thousands(mine)} | {thousands(other)} | {spread(ratios)} |")
 
 
 def main():
@@ -83,7 +99,7 @@ def main():
     titles = {0: "never cut", "silent": "only counted"}
     for room in rooms:
         title = titles.get(room, f"room {room}, cut when half full")
-        print_table(title, [name for name, *_ in COLUMNS], runs[room], peer)
+        print_table(title, runs[room], peer)
 
 
 if __name__ == "__main__":

@@ -6,8 +6,10 @@
 //!     bench calls FRAMES               each call of a core of so many frames
 //!     bench pool FILE [ROOM | silent]  fixes and unfixes over a page file
 //!
-//! With a room the trail is cut each time it is half full, and continues in the memory of the piece before; without one
-//! it is never cut. With `silent` the core only counts its entries. Other words, and fewer, are an error.
+//! Pages are used in pools of three sizes, with a correlated period of an eighth of the frames and, where pages are
+//! evicted, with none too. With a room the trail is cut each time it is half full, and continues in the memory of the
+//! piece before; without one it is never cut. With `silent` the core only counts its entries. Other words, and fewer,
+//! are an error.
 #![tactic(auto)]
 
 ghost use Rattle.std.specs.Prelude.{◌<◌};

@@ -20,6 +20,12 @@ const PAGES_A_FRAME: u64 = 4;
 // tick.
 const FIXES_A_TICK: u64 = 16;
 
+// So many fixes for each frame come before those that are timed: the pool is in its steady state then.
+const FIXES_BEFORE: u64 = 8;
+
+// An eighth of the frames is the period that the Rust crate has, whose pagers tick at each fix.
+const FRAMES_A_PERIOD: u64 = 8;
+
 /// The frames, the fixes that are timed over as many pages, and those over more pages.
 const POOLS: [(usize, u64, u64); 3] = [
     (256, 4000000, 400000),
@@ -78,6 +84,7 @@ fn new_bench<K: Tended>(
     path: &str,
     frames: usize,
     pages: u64,
+    period: u64,
     room: usize,
     cut_at: usize,
 ) -> Result<Bench<K>, OpenFault>
@@ -89,7 +96,7 @@ fn new_bench<K: Tended>(
     if geometry.pages < pages {
         return Err(OpenFault::Refused(Refusal::BadLength));
     }
-    let made = match Settings::new(2, 0, MAX_PERIOD) {
+    let made = match Settings::new(2, period, MAX_PERIOD) {
         Ok(settings) => PoolCore::new(alloc, geometry, settings, frames, 1, room),
         Err(refusal) => Err(refusal),
     };
@@ -147,7 +154,7 @@ impl<K: Tended> Bench<K> {
     }
 }
 
-/// Times uses of so many random pages, once each frame has a page.
+/// Times uses of so many random pages, once the pool is in its steady state.
 fn time_pages<K: Tended>(
     rt: &(impl Runtime<A = Global> + CpuClock + Wait),
     bench: &mut Bench<K>,
@@ -155,6 +162,7 @@ fn time_pages<K: Tended>(
     calls: u64,
 ) -> Result<(), anyhow::Error> {
     bench.use_pages(rt, frames as u64, false);
+    bench.use_pages(rt, (frames as u64).wrapping_mul(FIXES_BEFORE), true);
     let since = rt.thread_cpu_time()?;
     let good = bench.use_pages(rt, calls, true);
     let spent = rt.thread_cpu_time()?.saturating_sub(since).as_nanos();
@@ -170,25 +178,28 @@ fn time_pages<K: Tended>(
     Ok(())
 }
 
-/// Times uses of so many pages of a file by a new pool.
+/// Times uses of so many pages of a file by a new pool with this correlated period.
 fn time_pool<K: Tended>(
     rt: &(impl Runtime<A = Global> + CpuClock + Files<File = File> + Wait),
     path: &str,
     frames: usize,
     pages: u64,
+    period: u64,
     calls: u64,
     room: usize,
     cut_at: usize,
 ) -> Result<(), anyhow::Error>
     requires { 0 < pages }
 {
-    let mut bench = new_bench::<K>(rt, path, frames, pages, room, cut_at)?;
+    println!(rt; "period {period}")?;
+    let mut bench = new_bench::<K>(rt, path, frames, pages, period, room, cut_at)?;
     let timed = time_pages(rt, &mut bench, frames, calls);
     drop(bench);
     timed
 }
 
-/// Times hits, and then fixes of more pages than there are frames.
+/// Times hits, and then fixes of more pages than there are frames, with a correlated period and with none. It is an
+/// eighth of the frames in fixes, and is told in ticks.
 pub(crate) fn time_pools<K: Tended>(
     rt: &(impl Runtime<A = Global> + CpuClock + Files<File = File> + Wait),
     path: &str,
@@ -197,9 +208,14 @@ pub(crate) fn time_pools<K: Tended>(
 ) -> Result<(), anyhow::Error> {
     for (frames, hits, fixes) in POOLS {
         println!(rt; "{frames} frames")?;
-        let pages = frames as u64;
-        time_pool::<K>(rt, path, frames, pages, hits, room, cut_at)?;
-        time_pool::<K>(rt, path, frames, pages * PAGES_A_FRAME, fixes, room, cut_at)?;
+        let (pages, period) = (
+            frames as u64,
+            frames as u64 / FRAMES_A_PERIOD / FIXES_A_TICK,
+        );
+        time_pool::<K>(rt, path, frames, pages, period, hits, room, cut_at)?;
+        let many = pages * PAGES_A_FRAME;
+        time_pool::<K>(rt, path, frames, many, period, fixes, room, cut_at)?;
+        time_pool::<K>(rt, path, frames, many, 0, fixes, room, cut_at)?;
     }
     Ok(())
 }
