@@ -32,7 +32,7 @@ const NO_CORE: u16 = 50;
 /// The handle has a core already.
 const HAS_CORE: u16 = 51;
 
-const VERSION: u32 = 1000;
+const VERSION: u32 = 1100;
 
 /// Returns 0, or the number of the refusal.
 fn code<T>(answer: &Result<T, Refusal>) -> u16
