@@ -75,7 +75,7 @@ fn boxed(alloc: Global, config: &HzConfig) -> Result<Box<Pool, Global>, Refusal>
 /// Returns the version of the library: major * 10,000 + minor * 100 + patch.
 #[unsafe(no_mangle)]
 pub extern "C" fn proved_hz_version() -> u32
-    ensures { result ≡ 1000 }
+    ensures { result ≡ 1100 }
 {
     VERSION
 }
