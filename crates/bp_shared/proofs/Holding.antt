@@ -39,7 +39,7 @@ left-passes q g (x ∷ xs) m = go (q x) refl (same_grant g x) refl (left-passes 
     go false i d j ih m = ih m
 
 -- two passes that are out are of one client, if they have one number
-of-one : (gs : List Grant) → OneSerial gs → (a b : Grant) → is_out a gs ≡ true → is_out b gs ≡ true → a.serial ≡ b.serial → a.client ≡ b.client
+pub of-one : (gs : List Grant) → OneSerial gs → (a b : Grant) → is_out a gs ≡ true → is_out b gs ≡ true → a.serial ≡ b.serial → a.client ≡ b.client
 of-one [] h a b m k s = absurd (true≢false (sym m))
 of-one (x ∷ gs) h a b m k s = go (same_grant a x) refl (same_grant b x) refl m k (of-one gs h.1 a b)
   where
@@ -56,11 +56,11 @@ of-one (x ∷ gs) h a b m k s = go (same_grant a x) refl (same_grant b x) refl m
 
 module _ (g : Grant) where
   -- what an entry gives, and what it gives back, leaves a pass with another number
-  out-given : (o : Option Grant) (gs : List Grant) → is_out g gs ≡ true → is_out g (and_given o gs) ≡ true
+  pub out-given : (o : Option Grant) (gs : List Grant) → is_out g gs ≡ true → is_out g (and_given o gs) ≡ true
   out-given None gs m = m
   out-given (Some x) gs m = or_right (same_grant g x) (is_out g gs) m
 
-  out-left : (n : ℕ) (gs : List Grant) → (g.serial ≡ n → ⊥) → is_out g gs ≡ true → is_out g (without (λ y. y.serial) (Some n) gs) ≡ true
+  pub out-left : (n : ℕ) (gs : List Grant) → (g.serial ≡ n → ⊥) → is_out g gs ≡ true → is_out g (without (λ y. y.serial) (Some n) gs) ≡ true
   out-left n [] apart m = m
   out-left n (x ∷ gs) apart m = go (same_grant g x) refl (x.serial == n) refl (out-left n gs apart) m
     where

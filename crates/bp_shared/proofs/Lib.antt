@@ -10,4 +10,5 @@ pub mod Telling
 pub mod Posting
 pub mod Holding
 pub mod Waiting
+pub mod Owning
 pub mod Reaching

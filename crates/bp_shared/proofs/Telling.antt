@@ -24,7 +24,7 @@ use Rattle.bp_core.specs.Outcomes.{Cuts}
 use Rattle.bp_trail.specs.Ends.{ended_reply}
 use Rattle.bp_trail.specs.Clients.{of_client}
 use Rattle.bp_trail.proofs.Comparing.{of_client-append, of_client-hit, of_client-miss}
-use Rattle.bp_session_log.specs.Boards.{Writes}
+use Rattle.bp_session_log.specs.Boards.{Opens, Writes}
 use Rattle.bp_session_log.specs.declared.boards.Board.{Board}
 use Rattle.bp_session_log.specs.declared.boards.Line.{Line}
 use Rattle.bp_session_log.specs.Rings.{GoBack, RingView, DrainsRings}
@@ -373,6 +373,17 @@ pub shown_own : (board : ℕ) (start : Trail) (client : ℕ) (old new : Board) (
 shown_own board start client old new had has past said s l w u =
     shown_again board start client old new had has past said s l (listed_by board start client old new had has past said said s l w u) w
 
+-- a later trail has all of it, and what the client did since
+pub listed_later : (start noted seen : Trail) (client : ℕ) (said : Trail) → IsListOf start noted client said → GoesOnFrom noted seen → (later : Trail) × IsListOf start seen client (later ++ said)
+listed_later start noted seen client said t on = (
+  of_client client on.0,
+  record {
+    since = on.0 ++ t.since;
+    goes_on = on.1 ∙ ap (λ es. on.0 ++ es) t.goes_on ∙ sym (append_assoc on.0 t.since start);
+    theirs = of_client-append client on.0 t.since ∙ ap (λ es. of_client client on.0 ++ es) t.theirs;
+  },
+)
+
 -- passes of another client went back
 pub listed_taken_back : (start : Trail) (c client : ℕ) (old new : CoreView) (said : Trail) → client ≢ c → IsListOf start old.past client said → TakesBack c old new → IsListOf start new.past client said
 listed_taken_back start c client old new said apart t b = record {
@@ -425,6 +436,16 @@ earlier_cut board b old new entries e cut = subst (λ p. AreEarlier board b p) (
 -- nothing was seen yet
 pub earlier_none : (board : ℕ) (b : Board) (past : Trail) → b.name ≡ board → IsBlank b.lists → AreEarlier board b past
 earlier_none board b past name blank = record { board_is = name; each = λ n. (past, sym (append-nil past) ∙ ap (λ l. past ++ l) (sym (blank n))) }
+
+-- a line was opened, for which nothing was seen
+pub earlier_opened : (board : ℕ) (old new : Board) (line : Line) (past : Trail) → AreEarlier board old past → Opens old new line → AreEarlier board new past
+earlier_opened board old new line past e o = record { board_is = o.name ∙ e.board_is; each = λ n. subst (λ ls. GoesOnFrom (get_or ls n []) past) (sym o.lists) (more old.lists e.each n) }
+  where
+    more : (lists : List Trail) → ((n : ℕ) → GoesOnFrom (get_or lists n []) past) → (n : ℕ) → GoesOnFrom (get_or (lists ++ [] ∷ []) n []) past
+    more [] each zero = (past, sym (append-nil past))
+    more [] each (suc n) = (past, sym (append-nil past))
+    more (l ∷ lists) each zero = each 0
+    more (l ∷ lists) each (suc n) = more lists (λ m. each (suc m)) n
 
 -- what a session saw before is an older part of the trail
 pub line_earlier : (board : ℕ) (old new : Board) (had has : Line) (past list : Trail) → AreEarlier board old past → Writes old had list new has → GoesOnFrom had.list past

@@ -1,5 +1,6 @@
 -- How the device's work grows with a session's list, entry by entry.
-use Rattle.std.proofs.Common.{◌≡◌, refl, sym, ap, subst, ◌∙◌, ℕ, true, false, List, [], ◌∷◌, ◌++◌, append_assoc, Option, Some, None, Result, Ok, Err, inl, inr}
+use Rattle.std.proofs.Common.{◌≡◌, ◌≢◌, refl, sym, ap, subst, ◌∙◌, ℕ, true, false, List, [], ◌∷◌, ◌++◌, append_assoc, Option, Some, None, Result, Ok, Err, inl, inr}
+use Rattle.std.proofs.lemmas.Bool.{true≢false}
 use Rattle.bp_page.specs.declared.refusals.Refusal.{Refusal}
 use Rattle.bp_page.specs.declared.refusals.Refusal.TheVariants as refusal
 use Rattle.bp_page.specs.declared.refusals.PortFault.{PortFault}
@@ -19,7 +20,7 @@ use Rattle.bp_session_log.specs.declared.pending.Fix.{Fix as Fixing}
 use Rattle.bp_session_log.specs.declared.pending.Fix.TheVariants as fixing
 use Rattle.bp_session_log.specs.declared.pending.Flush.{Flush as Flushing}
 use Rattle.bp_session_log.specs.declared.pending.Flush.TheVariants as flushing
-use Rattle.bp_session_log.specs.Turns.{FixTurn, FlushTurn, MarksOnce, refusal_reply, and_told, EndReadOutcome, EndWriteOutcome, LoadOutcome, WriteOutOutcome}
+use Rattle.bp_session_log.specs.Turns.{fix_refuses, flush_refuses, FixTurn, FlushTurn, MarksOnce, refusal_reply, and_told, EndReadOutcome, EndWriteOutcome, LoadOutcome, WriteOutOutcome}
 use Rattle.bp_core.specs.Added.{Ends}
 use Rattle.bp_core.specs.Work.{Reads, Writes, Works, WorksThrough}
 use Rattle.bp_shared.proofs.Stepping.{err}
@@ -146,6 +147,13 @@ began-by-flush client page ticket mid after t = subst (λ es. Ends (WriteFirst t
 abbrev pub why-of : {A : Type 0} → Result A Refusal → Refusal
 why-of (Ok done) = refusal.NoVictim
 why-of (Err why) = why
+
+-- no event is refused for a ticket
+pub known-fix : (A : Type 0) (why : Refusal) → fix_refuses why ≡ true → err A why ≢ err A refusal.UnknownTicket
+known-fix A why refuses is = true≢false (sym refuses ∙ ap fix_refuses (ap why-of is))
+
+pub known-flush : (A : Type 0) (why : Refusal) → flush_refuses why ≡ true → err A why ≢ err A refusal.UnknownTicket
+known-flush A why refuses is = true≢false (sym refuses ∙ ap flush_refuses (ap why-of is))
 
 -- a ticket that was unknown for one answer was so for another
 pub unerr : {A B : Type 0} {why : Refusal} → err A why ≡ err A refusal.UnknownTicket → err B why ≡ err B refusal.UnknownTicket

@@ -63,10 +63,10 @@ pub record Later (old new : SessionValue) : Type 0 where
   pub said : GoesOnFrom old.said new.said
   pub seen : GoesOnFrom old.seen new.seen
 
--- between these two the session saw a trail in which the page was not unsaved, or a flush of it was
--- answered
-pub data Reaches (page : ℕ) (old new : SessionValue) : Type 0 where
-  saved : (mid : SessionValue) → Later old mid → unsaved mid.seen page ≡ false → Later mid new
-      → Reaches page old new
+-- between these two the session looked at the trail, and the page was not unsaved in it, or a flush
+-- of the page was answered
+pub data Reaches (o : Pool) (page : ℕ) (old new : SessionValue) : Type 0 where
+  saved : (was mid : SessionValue) → Later old was → Sees o.parameters o.start was mid
+      → unsaved mid.seen page ≡ false → Later mid new → Reaches o page old new
   flushed : (how : Flushed) (mid after : SessionValue) → Later old mid
-      → Flushes page (Ok how) mid after → Later after new → Reaches page old new
+      → Flushes page (Ok how) mid after → Later after new → Reaches o page old new

@@ -1,11 +1,11 @@
 -- What the locked state and a session's list have in common.
-use Rattle.std.specs.Prelude.{◌≡◌, ℕ, ◌+◌, ◌%◌, ◌^◌, ◌≤◌, List, ◌++◌, ◌⊎◌, Result, Ok, Err, IsErr}
+use Rattle.std.specs.Prelude.{◌≡◌, ℕ, ◌≤◌, List, ◌++◌, ◌⊎◌, Result, Ok, IsErr}
 use Rattle.bp_page.specs.declared.refusals.Refusal.{Refusal}
-use Rattle.bp_page.specs.declared.refusals.Refusal.TheVariants as refusal
 use Rattle.bp_mark.specs.Marks.{MarkName, ReaderValue}
 use Rattle.bp_trail.specs.Parameters.{Parameters}
 use Rattle.bp_trail.specs.Trail.{Trail}
 use Rattle.bp_trail.specs.Clock.{durable}
+use Rattle.bp_trail.specs.Legal.{Legal}
 use Rattle.bp_core.specs.CoreView.{CoreView}
 use Rattle.bp_session_log.specs.declared.pending.Fix.{Fix as Fixing}
 use Rattle.bp_session_log.specs.declared.pending.Flush.{Flush as Flushing}
@@ -65,6 +65,7 @@ pub record Enters (start : Trail) (session : SessionValue) (state : LockedValue)
   pub mid : LockedValue
   pub drained : Drained was mid
   pub takes : TakesBack session.client mid.core state.core
+  pub legal : Legal state.core.parameters state.core.past
   pub list_is : IsListOf start state.core.past session.client session.said
   pub emptied : session.free ≡ 32
 
@@ -94,9 +95,3 @@ FixStep client page seen answer = LooksFirst client seen answer (AsksFix client 
 
 abbrev pub FlushStep : ℕ → ℕ → ℕ → Result Flushing Refusal → CoreView → CoreView → Type 0
 FlushStep client page seen answer = LooksFirst client seen answer (AsksFlush client page answer)
-
--- how often device work ended, after one end more: that of a ticket that the pool does not know is
--- none
-abbrev pub ends_after : {A : Type 0} → Result A Refusal → ℕ → ℕ
-ends_after (Err refusal.UnknownTicket) ends = ends
-ends_after _ ends = (ends + 1) % 2 ^ 64

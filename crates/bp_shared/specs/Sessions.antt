@@ -1,5 +1,5 @@
 -- What a session's call adds to the session's list, newest first, by what it answers.
-use Rattle.std.specs.Prelude.{◌≡◌, ◌⊎◌, ℕ, ◌+◌, ◌≤◌, zero, suc, true, false, List, [], ◌∷◌, ◌++◌, Option, Some, None, Result, Ok, Err, vec_len, vec_capacity}
+use Rattle.std.specs.Prelude.{◌≡◌, ◌≢◌, ◌⊎◌, ℕ, ◌+◌, ◌≤◌, zero, suc, true, false, List, [], ◌∷◌, ◌++◌, Option, Some, None, Result, Ok, Err, vec_len, vec_capacity}
 use Rattle.bp_page.specs.declared.refusals.Refusal.{Refusal}
 use Rattle.bp_page.specs.Refusals.{number_of}
 use Rattle.bp_page.specs.declared.refusals.Refusal.TheVariants as refusal
@@ -125,6 +125,10 @@ pub record DoesWorkSaid {A : Type 0} (reads : Reads A) (writes : Writes A) (said
   pub piece : Trail
   pub grows : after ≡ piece ++ said
   pub through : WorksThrough reads (WithSomeLsn writes) said piece port kept
+
+-- the pass is another client's, or the session's list was not given it, or gave it back
+abbrev pub LacksOwn : Pass → SessionValue → Type 0
+LacksOwn pass s = (pass.client ≢ s.client) ⊎ (pass_is_out pass s.said ≡ false)
 
 -- a pass that the list leaves out is posted, or finds the ring full: then the session knew of no
 -- free place, and nothing changes; any other is unknown

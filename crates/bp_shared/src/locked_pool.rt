@@ -64,6 +64,7 @@ impl<N: PoolName, K: ListKeeper> LockedPool<N, K> {
     ghost use Rattle.std.specs.Prelude.{◌≡◌, ◌≤◌, [], All, map, length};
     ghost use Rattle.rtrb.specs.Ring.{sent, received};
     ghost use Rattle.bp_trail.specs.Clock.{durable};
+    ghost use Rattle.bp_trail.specs.Legal.{Legal};
     ghost use Rattle.bp_session_log.specs.Rings.{ring_view, ring_of, ring_at};
     ghost use Rattle.bp_shared.specs.Posting.{TakesBack};
     ghost use Rattle.bp_shared.specs.Locked.{Drained};
@@ -129,6 +130,7 @@ impl<N: PoolName, K: ListKeeper> LockedPool<N, K> {
         ensures ends { self.new.ends ≡ self.old.ends }
         ensures session { session.new ≡ record session.old { free = 32 } }
         ensures free { session.old.free ≤ 32 }
+        ensures legal { Legal self.new.core.parameters self.new.core.past }
         ensures list { IsListOf N.past self.new.core.past session.old.client session.old.said }
     {
         let client = usize::from(session.client());

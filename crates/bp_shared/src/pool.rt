@@ -159,7 +159,7 @@ impl<N: PoolName, K: ListKeeper> Model for SharedPool<N, K> {
 }
 
 impl<N: PoolName, K: ListKeeper> SharedPool<N, K> {
-    ghost use Rattle.std.specs.Prelude.{◌≡◌, ◌≢◌, ◌≤◌, length, IfOk, OnErr};
+    ghost use Rattle.std.specs.Prelude.{◌≡◌, ◌≢◌, ◌≤◌, length, IfOk, IfErr, OnErr};
     ghost use Rattle.std.specs.Sync.Mutex.{mutex_guard_value};
     ghost use Rattle.bp_page.specs.declared.refusals.Refusal.TheVariants as Refusal;
     ghost use Rattle.bp_trail.specs.Clock.{durable};
@@ -251,10 +251,9 @@ impl<N: PoolName, K: ListKeeper> SharedPool<N, K> {
     }
 
     /// Gives a pass back as `unfix` does. Where the session's ring is full it takes the lock once, for which it may
-    /// wait, drains all rings and tries again. It takes no memory.
+    /// wait: a critical section empties the ring, which has room for the pass then. It takes no memory.
     ///
-    /// `UnknownPass` as from `unfix`; `RingFull` where the ring is full even then, which is not known to happen. Both
-    /// hand the pass back and leave the session as it was; passes that waited in rings may have gone back to the core.
+    /// `UnknownPass` alone, as from `unfix`, which hands the pass back and leaves the session as it was.
     pub fn unfix_draining<R: Wait>(
         &self,
         rt: &R,
@@ -265,10 +264,11 @@ impl<N: PoolName, K: ListKeeper> SharedPool<N, K> {
         ensures before { session.new.before ≡ session.old.before }
         ensures seen { session.new.seen ≡ session.old.seen }
         ensures outcome { UnfixSaid session.old pass result session.new }
+        ensures room { IfErr result (λ back. back.1 ≡ Refusal.UnknownPass) }
     {
         match self.unfix(session, pass) {
             Err((pass, Refusal::RingFull)) => {
-                self.settle(rt);
+                drop(self.lock_and_drain(rt, session));
                 self.unfix(session, pass)
             }
             outcome => outcome,

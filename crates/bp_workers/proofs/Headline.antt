@@ -21,6 +21,7 @@ use Rattle.bp_trail.specs.Legal.{Legal}
 use Rattle.bp_trail.specs.Pieces.Manner.{session}
 use Rattle.bp_trail.specs.Script.{FollowsBy, GivesBack, Follows}
 use Rattle.bp_trail.specs.Clients.{of_client}
+use Rattle.bp_trail.proofs.Comparing.{of_client-reverse}
 use Rattle.bp_trail.specs.LogBound.{IsWithinLog}
 use Rattle.bp_core.specs.CoreView.{CoreView}
 use Rattle.bp_core.specs.Work.{Reads, Writes, WorksThrough}
@@ -45,17 +46,18 @@ record FollowsCut (script : List Row) (ends : List ℕ) (said : Trail) (refused 
   gives_back : GivesBack by_rows said
   known : NoneIsStrange refused
 
--- what client c left, with its script and the port that it was given
-record IsPlayed {P : Type 0} (reads : Reads P) (writes : Writes P) (c : ℕ) (rows : List Row) (port : P) (l : LeftValue P) : Type 0 where
+-- what client c left, with its script and the port that it was given: its list is the trail's part
+record IsPlayed {P : Type 0} (reads : Reads P) (writes : Writes P) (past : Trail) (c : ℕ) (rows : List Row) (port : P) (l : LeftValue P) : Type 0 where
   client : l.client ≡ c
+  theirs : of_client c past ≡ l.said
   script : l.script ≡ rows
   follows : l.is_done ≡ true → FollowsCut rows l.ends l.said l.refused
   works : l.is_done ≡ true → WorksThrough reads (WithSomeLsn writes) [] l.said port l.port
 
 -- what was left is of these scripts and ports, in order
-pub record ArePlayed {P : Type 0} (reads : Reads P) (writes : Writes P) (scripts : List (List Row)) (ports : List P) (lefts : List (LeftValue P)) : Type 0 where
+pub record ArePlayed {P : Type 0} (reads : Reads P) (writes : Writes P) (past : Trail) (scripts : List (List Row)) (ports : List P) (lefts : List (LeftValue P)) : Type 0 where
   counted : length lefts ≡ length scripts
-  each : (c : ℕ) (d : LeftValue P) (e : P) → c < length scripts → IsPlayed reads writes c (list_of c scripts) (get_or ports c e) (get_or lefts c d)
+  each : (c : ℕ) (d : LeftValue P) (e : P) → c < length scripts → IsPlayed reads writes past c (list_of c scripts) (get_or ports c e) (get_or lefts c d)
 
 -- where client 0 took nothing, nothing was cut of the trail
 untaken : (core : CoreView) (upkeep : Option UpkeepValue) → KeepsUp core 0 upkeep → IfSome upkeep (λ u. u.taken ≡ []) → core.before ≡ []
@@ -72,9 +74,10 @@ module _ {P K I B S : Type 0} (reads : Reads P) (writes : Writes P) (core : Core
   are_left players scripts ports lefts are each = subst (λ ps. SideBySide (LeftBy core geometry_of (PlayerLeaves reads writes)) 0 (zip ps ports) lefts) are each
 
   -- by the player's own word and what went back
-  played : (c : ℕ) (rows : List Row) (port : P) (left : Left P PlayerValue K I B S) → LeftBy core geometry_of (PlayerLeaves reads writes) c (new_player g c rows, port) left → IsPlayed reads writes c rows port (left_value left)
+  played : (c : ℕ) (rows : List Row) (port : P) (left : Left P PlayerValue K I B S) → LeftBy core geometry_of (PlayerLeaves reads writes) c (new_player g c rows, port) left → IsPlayed reads writes core.past c rows port (left_value left)
   played c rows port left is = record {
     client = is.whose;
+    theirs = is.theirs;
     script = is.leaves.0.script;
     follows = λ done.
         let both = and_parts left.worker.is_done left.all_went_back done in
@@ -86,11 +89,11 @@ module _ {P K I B S : Type 0} (reads : Reads P) (writes : Writes P) (core : Core
   }
 
   played-at : (first : ℕ) (scripts : List (List Row)) (ports : List P) (lefts : List (Left P PlayerValue K I B S)) (k c : ℕ) (d : LeftValue P) (e : P) → length ports ≡ length scripts → k < length scripts → first + k ≡ c → AreLeft first scripts ports lefts
-      → IsPlayed reads writes c (list_of k scripts) (get_or ports k e) (get_or (map left_value lefts) k d)
+      → IsPlayed reads writes core.past c (list_of k scripts) (get_or ports k e) (get_or (map left_value lefts) k d)
   played-at first [] ports lefts k c d e counted below is each = absurd (omega (arith, below))
   played-at first (rows ∷ scripts) [] lefts k c d e counted below is each = absurd (omega (arith, counted))
   played-at first (rows ∷ scripts) (port ∷ ports) [] k c d e counted below is each = absurd each
-  played-at first (rows ∷ scripts) (port ∷ ports) (l ∷ lefts) zero c d e counted below is each = subst (λ n. IsPlayed reads writes n rows port (left_value l)) (omega (arith, is)) (played first rows port l each.0)
+  played-at first (rows ∷ scripts) (port ∷ ports) (l ∷ lefts) zero c d e counted below is each = subst (λ n. IsPlayed reads writes core.past n rows port (left_value l)) (omega (arith, is)) (played first rows port l each.0)
   played-at first (rows ∷ scripts) (port ∷ ports) (l ∷ lefts) (suc k) c d e counted below is each = played-at (suc first) scripts ports lefts k c d e (omega (arith, counted)) (omega (arith, below)) (omega (arith, is)) each.1
 
   -- the list of no session was cut
@@ -110,7 +113,7 @@ module _ {P K I B S : Type 0} (reads : Reads P) (writes : Writes P) (core : Core
   core_uncut (rows ∷ scripts) (port ∷ ports) (l ∷ lefts) some counted each = untaken core each.0.upkeep each.0.keeps_up each.0.leaves.1
 
   -- what was left is of all scripts and ports
-  pub are_played : (scripts : List (List Row)) (ports : List P) (lefts : List (Left P PlayerValue K I B S)) → length ports ≡ length scripts → AreLeft 0 scripts ports lefts → ArePlayed reads writes scripts ports (map left_value lefts)
+  pub are_played : (scripts : List (List Row)) (ports : List P) (lefts : List (Left P PlayerValue K I B S)) → length ports ≡ length scripts → AreLeft 0 scripts ports lefts → ArePlayed reads writes core.past scripts ports (map left_value lefts)
   are_played scripts ports lefts counted each =
       let players = new_players g 0 scripts in
       let many : length players ≡ length scripts = length-new_players g 0 scripts in
@@ -121,14 +124,14 @@ module _ {P K I B S : Type 0} (reads : Reads P) (writes : Writes P) (core : Core
 
 -- ---- clause by clause
 
-module _ {P : Type 0} (reads : Reads P) (writes : Writes P) (scripts : List (List Row)) (ports : List P) (trail : List Entry) (lefts : List (LeftValue P)) (d : LeftValue P) (are : ArePlayed reads writes scripts ports lefts) (agree : All (Agrees trail) lefts) where
+module _ {P : Type 0} (reads : Reads P) (writes : Writes P) (scripts : List (List Row)) (ports : List P) (trail : List Entry) (lefts : List (LeftValue P)) (d : LeftValue P) (are : ArePlayed reads writes (reverse trail) scripts ports lefts) (agree : All (Agrees trail) lefts) where
   abbrev left_at : ℕ → LeftValue P
   left_at c = get_or lefts c d
 
   agrees-at : (c : ℕ) → c < length scripts → Agrees trail (left_at c)
   agrees-at c below = All-get_or (Agrees trail) lefts c d (omega (arith, are.counted)) agree
 
-  is-at : (c : ℕ) → c < length scripts → IsPlayed reads writes c (list_of c scripts) (get_or ports c d.port) (left_at c)
+  is-at : (c : ℕ) → c < length scripts → IsPlayed reads writes (reverse trail) c (list_of c scripts) (get_or ports c d.port) (left_at c)
   is-at c below = are.each c d d.port below
 
   said-at : (c : ℕ) → c < length scripts → list_of c (map (λ l. reverse l.said) lefts) ≡ reverse (left_at c).said
@@ -141,7 +144,8 @@ module _ {P : Type 0} (reads : Reads P) (writes : Writes P) (scripts : List (Lis
   left-at c e below = get_or-map (λ l. l.port) lefts c d e (omega (arith, are.counted))
 
   theirs : (c : ℕ) → c < length scripts → list_of c (map (λ l. reverse l.said) lefts) ≡ of_client c trail
-  theirs c below = said-at c below ∙ (agrees-at c below).said ∙ ap (λ n. of_client n trail) (is-at c below).client
+  theirs c below =
+      said-at c below ∙ ap reverse (sym (is-at c below).theirs ∙ of_client-reverse c trail) ∙ reverse-reverse (of_client c trail)
 
   -- client c's list follows its script by the cut of its player, whatever equals that list and its refused rows
   follows-at : (c : ℕ) (said : Trail) (refusals : List Refused) → c < length scripts → (left_at c).said ≡ said → (left_at c).refused ≡ refusals → Follows session (list_of c scripts) said refusals
@@ -181,7 +185,7 @@ known-all (l ∷ lefts) each = All-append (λ r. r.number ≢ 16) l.refused (fla
 
 -- the headline, from what was left
 run_with : {P : Type 0} (reads : Reads P) (writes : Writes P) (c : Parameters) (scripts : List (List Row)) (ports : List P) (trail : List Entry) (lefts : List (LeftValue P)) (d : LeftValue P) (said : List (List Entry)) (refused : List Refused) (left : List P)
-    → 0 < length scripts → length ports ≡ length scripts → Legal c (reverse trail) → ArePlayed reads writes scripts ports lefts → Joined trail lefts said refused left → IsRun reads writes c scripts ports trail said refused left
+    → 0 < length scripts → length ports ≡ length scripts → Legal c (reverse trail) → ArePlayed reads writes (reverse trail) scripts ports lefts → Joined trail lefts said refused left → IsRun reads writes c scripts ports trail said refused left
 unfolding follows follows-at
 run_with reads writes c scripts ports trail lefts d said refused left some ports_counted legal are j =
     let agree = j.collected.agree in
@@ -214,13 +218,13 @@ run_with reads writes c scripts ports trail lefts d said refused left some ports
     }
 
 run_is : {P : Type 0} (reads : Reads P) (writes : Writes P) (c : Parameters) (scripts : List (List Row)) (ports : List P) (trail : List Entry) (lefts : List (LeftValue P)) (said : List (List Entry)) (refused : List Refused) (left : List P)
-    → 0 < length scripts → length ports ≡ length scripts → Legal c (reverse trail) → ArePlayed reads writes scripts ports lefts → Joined trail lefts said refused left → IsRun reads writes c scripts ports trail said refused left
+    → 0 < length scripts → length ports ≡ length scripts → Legal c (reverse trail) → ArePlayed reads writes (reverse trail) scripts ports lefts → Joined trail lefts said refused left → IsRun reads writes c scripts ports trail said refused left
 run_is reads writes c scripts ports trail [] said refused left some ports_counted legal are j = absurd (omega (arith, some, are.counted))
 run_is reads writes c scripts ports trail (d ∷ lefts) said refused left some ports_counted legal are j = run_with reads writes c scripts ports trail (d ∷ lefts) d said refused left some ports_counted legal are j
 
 -- the same of a run's answer
 pub run_all : {P : Type 0} (reads : Reads P) (writes : Writes P) (p : Parameters) (scripts : List (List Row)) (ports : List P) (past : Trail) (lefts : List (LeftValue P)) (answer : Result (Outcome × Vec P Global) Refusal) → 0 < length scripts
-    → length ports ≡ length scripts → ArePlayed reads writes scripts ports lefts → Legal p past → IfOk answer (λ run. reverse run.0.trail.items ≡ past)
+    → length ports ≡ length scripts → ArePlayed reads writes past scripts ports lefts → Legal p past → IfOk answer (λ run. reverse run.0.trail.items ≡ past)
     → IfOk answer (λ run. Joined run.0.trail.items lefts (lists run.0.said.items) run.0.refused.items run.1.items) → IfOk answer (λ run. IsRun reads writes p scripts ports run.0.trail.items (lists run.0.said.items) run.0.refused.items run.1.items)
-run_all reads writes p scripts ports past lefts (Ok run) some counted are legal own joined = run_is reads writes p scripts ports _ lefts _ _ _ some counted (subst (Legal p) (sym own) legal) are joined
+run_all reads writes p scripts ports past lefts (Ok run) some counted are legal own joined = run_is reads writes p scripts ports _ lefts _ _ _ some counted (subst (Legal p) (sym own) legal) (subst (λ es. ArePlayed reads writes es scripts ports lefts) (sym own) are) joined
 run_all reads writes p scripts ports past lefts (Err why) some counted are legal own joined = tt

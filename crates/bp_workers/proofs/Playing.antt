@@ -1,8 +1,6 @@
 -- How a port's work grows with its client's list, step by step.
-use Rattle.std.proofs.Common.{◌≡◌, ◌≢◌, refl, sym, ◌∙◌, ap, subst, ℕ, true, false, List, [], ◌∷◌, Option, Some, None, Result, Err}
+use Rattle.std.proofs.Common.{◌≡◌, refl, sym, ◌∙◌, ap, subst, ℕ, false, List, [], ◌∷◌, Option, Some, None}
 use Rattle.std.proofs.lemmas.List.{append-nil}
-use Rattle.bp_page.specs.declared.refusals.Refusal.{Refusal}
-use Rattle.bp_page.specs.declared.refusals.Refusal.TheVariants as refusal
 use Rattle.bp_trail.specs.declared.entries.Call.{Call}
 use Rattle.bp_trail.specs.declared.entries.Call.TheVariants.{Tick, Read, Write, Unfix, Purge}
 use Rattle.bp_trail.specs.declared.entries.Reply.{Reply}
@@ -10,7 +8,7 @@ use Rattle.bp_trail.specs.declared.scripts.Step.{Step}
 use Rattle.bp_trail.specs.declared.scripts.Step.TheVariants as step
 use Rattle.bp_trail.specs.Trail.{Trail}
 use Rattle.bp_trail.specs.Event.{Grant}
-use Rattle.bp_trail.specs.Pieces.{Outcome, OneCall, outcome_of}
+use Rattle.bp_trail.specs.Pieces.{Outcome, OneCall}
 use Rattle.bp_trail.specs.Pieces.Manner.{session}
 use Rattle.bp_trail.specs.Pieces.Outcome.{accepted, refused}
 use Rattle.bp_trail.specs.Script.{latest_pass, WithPass, RowPiece, GivesBack, unfix_of}
@@ -25,10 +23,6 @@ abbrev IsQuiet : Step → Type 0
 IsQuiet (step.Fix page) = ⊥
 IsQuiet (step.Flush page) = ⊥
 IsQuiet _ = Unit {0}
-
--- a step that is no fault of the run met no ticket that is unknown
-pub known_step : (r : Result (Unit {0}) Refusal) → is_fault (outcome_of r) ≡ false → r ≢ Err refusal.UnknownTicket
-known_step r none is = let no : true ≡ false = subst (λ o. is_fault (outcome_of o) ≡ false) is none in cc
 
 module _ {P : Type 0} (reads : Reads P) (writes : Writes P) where
   -- a call without device work

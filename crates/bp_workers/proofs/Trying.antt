@@ -6,7 +6,6 @@ use Rattle.bp_core.specs.declared.passes.Pass.{Pass}
 use Rattle.bp_trail.specs.Trail.{Trail}
 use Rattle.bp_shared.specs.Sessions.{MayFree, FreesRing}
 use Rattle.bp_shared.proofs.Freeing.{freed, all_then, may_more}
-use Rattle.bp_shared.proofs.Stepping.{err}
 use Rattle.bp_workers.specs.Tries.{Fixes, Ticks, GivesUp, GoesOn, Tries}
 use Rattle.bp_workers.specs.Tries.Tries.{again, at_last, fixed, given_up}
 
@@ -50,31 +49,14 @@ module _ (fixes : Fixes) (ticks : Ticks) (client page steps rounds : ℕ) where
   leads-end durable raised ticked done said now after answer leads all found =
       leads durable raised 0 answer after (omega arith) (omega (arith, all)) (at_last found)
 
-abbrev why-of : Result Pass Refusal → Refusal
-why-of (Ok pass) = refusal.NoVictim
-why-of (Err why) = why
-
--- a refusal after which the fix goes on is not that of a ticket
-pub goes-on-known : (client steps raised : ℕ) (why : Refusal) (ticked now : Bool) (said after : Trail) → GoesOn client steps raised why ticked now said after → err Pass why ≡ err Pass refusal.UnknownTicket → ⊥
-goes-on-known client steps raised (refusal.NeedLog lsn) ticked now said after h is = let no : refusal.NeedLog lsn ≡ refusal.UnknownTicket = ap why-of is in cc
-goes-on-known client steps raised refusal.NoVictim ticked now said after h is = let no : refusal.NoVictim ≡ refusal.UnknownTicket = ap why-of is in cc
-goes-on-known client steps raised _ ticked now said after h is = absurd h
-
--- nor is one for which another refusal is answered
-pub gives-up-known : (ticks : Ticks) (client steps durable : ℕ) (why : Refusal) (ticked : Bool) (answer : Refusal) (said after : Trail) → GivesUp ticks client steps durable why ticked answer said after
-    → (err Pass answer ≡ err Pass refusal.UnknownTicket → ⊥) → err Pass why ≡ err Pass refusal.UnknownTicket → ⊥
-gives-up-known ticks client steps durable (refusal.NeedLog lsn) ticked answer said after h known is = let no : refusal.NeedLog lsn ≡ refusal.UnknownTicket = ap why-of is in cc
-gives-up-known ticks client steps durable refusal.NoVictim ticked answer said after h known is = let no : refusal.NoVictim ≡ refusal.UnknownTicket = ap why-of is in cc
-gives-up-known ticks client steps durable why ticked answer said after h known is = known (ap (λ w. err Pass w) h.0 ∙ is)
-
 -- what the session knows of its ring then
 pub gives-up-frees : (ticks : Ticks) (client steps durable : ℕ) (why : Refusal) (ticked : Bool) (answer : Refusal) (said after : Trail) (free mid last : ℕ) → GivesUp ticks client steps durable why ticked answer said after
     → FreesRing {A = Pass} (Err why) free mid → MayFree mid last → FreesRing {A = Pass} (Err answer) free last
-gives-up-frees ticks client steps durable (refusal.NeedLog lsn) ticked answer said after free mid last h f m = freed _ _ _ (all_then free mid last f m)
-gives-up-frees ticks client steps durable refusal.NoVictim ticked answer said after free mid last h f m = freed _ _ _ (all_then free mid last f m)
+gives-up-frees ticks client steps durable (refusal.NeedLog lsn) ticked answer said after free mid last h f m = freed {A = Pass} (Err answer) free last (all_then free mid last f m)
+gives-up-frees ticks client steps durable refusal.NoVictim ticked answer said after free mid last h f m = freed {A = Pass} (Err answer) free last (all_then free mid last f m)
 gives-up-frees ticks client steps durable refusal.OutOfMemory ticked answer said after free mid last h f m = subst (λ w. FreesRing {A = Pass} (Err w) free last) (sym h.0) (may_more free mid last f m)
 gives-up-frees ticks client steps durable refusal.UnknownPass ticked answer said after free mid last h f m = subst (λ w. FreesRing {A = Pass} (Err w) free last) (sym h.0) (may_more free mid last f m)
-gives-up-frees ticks client steps durable _ ticked answer said after free mid last h f m = freed _ _ _ (all_then free mid last f m)
+gives-up-frees ticks client steps durable _ ticked answer said after free mid last h f m = freed {A = Pass} (Err answer) free last (all_then free mid last f m)
 
 -- who gives up adds nothing
 pub gives-up-stays : (ticks : Ticks) (client steps durable : ℕ) (why : Refusal) (ticked : Bool) (answer : Refusal) (said after : Trail) → GivesUp ticks client steps durable why ticked answer said after → after ≡ said

@@ -1,5 +1,5 @@
 -- What one client's player is given, and what it leaves.
-use Rattle.std.specs.Prelude.{◌≡◌, ◌≢◌, ◌⊎◌, ℕ, suc, ◌≤◌, Bool, true, false, ◌&&◌, List, [], ◌∷◌, ◌++◌, All, reverse, length, map, flat_map, IfSome}
+use Rattle.std.specs.Prelude.{◌≡◌, ◌⊎◌, ℕ, suc, ◌≤◌, Bool, true, false, ◌&&◌, List, [], ◌∷◌, ◌++◌, All, reverse, length, map, flat_map, IfSome}
 use Rattle.std.specs.declared.vec.Vec.{Vec}
 use Rattle.bp_page.specs.declared.limits.Geometry.{Geometry}
 use Rattle.bp_page.specs.declared.refusals.Refusal.{Refusal}
@@ -12,7 +12,6 @@ use Rattle.bp_trail.specs.Pieces.Manner.{session}
 use Rattle.bp_trail.specs.Script.{FollowsBy}
 use Rattle.bp_core.specs.Work.{Reads, Writes}
 use Rattle.bp_shared.specs.Sessions.{DoesWorkSaid, SessionValue}
-use Rattle.bp_trail.specs.Clients.{of_client}
 use Rattle.bp_trail.specs.LogBound.{IsWithinLog}
 use Rattle.bp_workers.specs.declared.worker.Left.{Left}
 use Rattle.bp_workers.specs.Workers.{Leaving}
@@ -107,27 +106,24 @@ left_value left = record {
   is_done = left.worker.is_done && left.all_went_back;
 }
 
--- all was run, the list is what the trail (in order) has of the client, and the log of client 0
--- bounds the marks
+-- all was run, and the log of client 0 bounds the marks of the trail (in order)
 pub record Agrees {P : Type 0} (trail : List Entry) (l : LeftValue P) : Type 0 where
   pub done : l.is_done ≡ true
-  pub said : reverse l.said ≡ of_client l.client trail
   pub within : l.client ≡ 0 → IsWithinLog l.script l.ends (reverse trail)
 
--- a comparison fails: the script was not run whole, or a pass did not go back, the list is not what
--- the trail has of the client, or the log does not bound the marks
+-- that fails: the script was not run whole, or a pass did not go back, or the log does not bound the
+-- marks
 abbrev pub Disagrees : {P : Type 0} → List Entry → LeftValue P → Type 0
 Disagrees trail l =
-    (l.is_done ≡ false) ⊎ (reverse l.said ≢ of_client l.client trail)
-    ⊎ ((l.client ≡ 0) × (¬ IsWithinLog l.script l.ends (reverse trail)))
+    (l.is_done ≡ false) ⊎ ((l.client ≡ 0) × (¬ IsWithinLog l.script l.ends (reverse trail)))
 
--- some comparison fails
+-- of one of them that fails
 abbrev pub SomeDisagrees : {P : Type 0} → List Entry → List (LeftValue P) → Type 0
 SomeDisagrees {P} trail lefts =
     (earlier later : List (LeftValue P)) × (l : LeftValue P) × (lefts ≡ earlier ++ l ∷ later)
     × Disagrees trail l
 
--- why what was left is not added: memory is wanted, or a comparison fails
+-- why what was left is not added: memory is wanted, or that fails
 abbrev pub NotAdded : Type 0 → Refusal → Type 0
 NotAdded disagrees refusal.OutOfMemory = Unit {0}
 NotAdded disagrees refusal.Disagree = disagrees

@@ -1,5 +1,5 @@
 //! `fix_durably`: a fix that has the log made durable, or waits for a victim, and is tried again.
-ghost use Rattle.std.specs.Prelude.{◌≡◌, ◌≢◌, ◌<◌, false, OnOk, IfErr};
+ghost use Rattle.std.specs.Prelude.{◌≡◌, ◌<◌, false, OnOk, IfErr};
 ghost use Rattle.bp_page.specs.declared.refusals.Refusal.TheVariants as Refusal;
 ghost use Rattle.bp_shared.specs.Sessions.{DoesWorkSaid, FreesRing, MayFree};
 ghost use Rattle.bp_workers.specs.Logs.{RaisesWithin};
@@ -50,7 +50,8 @@ pub trait Asked<N: PoolName, K: ListKeeper> {
         ensures free { FreesRing result session.old.free session.new.free }
         ensures port { P.geometry_of port.new ≡ P.geometry_of port.old }
         ensures gives { fixes session.old.client page result session.old.said session.new.said }
-        ensures work { result ≢ Err Refusal.UnknownTicket → DoesWorkSaid P.read_gives P.write_gives
+        ensures known { result ≢ Err Refusal.UnknownTicket }
+        ensures work { DoesWorkSaid P.read_gives P.write_gives
             session.old.said session.new.said port.old port.new };
 
     /// Moves the clock on, as [`SharedPool::tick`] does.
@@ -267,7 +268,7 @@ pub fn fix_durably<N: PoolName, P: Port, K: ListKeeper, A: Asked<N, K>, L: Durab
     ensures outcome { Tries A.fixes A.ticks client.old.session.client page patience.ticks
         (L.durable_to log.new) (L.raised_to log.new) patience.rounds false result
         client.old.session.said client.new.session.said }
-    ensures work { result ≢ Err Refusal.UnknownTicket → DoesWorkSaid P.read_gives P.write_gives
+    ensures work { DoesWorkSaid P.read_gives P.write_gives
         client.old.session.said client.new.session.said client.old.port client.new.port }
 {
     let mut is_ticked = false;

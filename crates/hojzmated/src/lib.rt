@@ -39,6 +39,6 @@ pub use bp_workers::{
 pub use bp_mark::{LogEnd, Mark, Reader};
 pub use bp_session_log::Book;
 pub use bp_shared::{
-    ClosedPool, LogWriter, Parts, PoolName, Session, SharedPool, SilentPool, SilentSession, Taker,
-    TrailRing,
+    ClosedPool, LogWriter, Parts, PoolName, Receipt, Session, SharedPool, SilentPool,
+    SilentSession, Taker, TrailRing,
 };

@@ -1,7 +1,6 @@
 -- What the worker's own word comes to once the passes went back that it held.
-use Rattle.std.proofs.Common.{◌≡◌, refl, ap, ℕ, zero, suc, ◌≤◌, arith, List, [], ◌∷◌, Option, Some, None, Result, Ok, Err}
+use Rattle.std.proofs.Common.{◌≡◌, refl, ap, ℕ, zero, suc, ◌≤◌, arith, List, [], ◌∷◌, Option, Some, None}
 use Rattle.std.specs.Prelude.{IfSome}
-use Rattle.bp_page.specs.declared.refusals.Refusal.{Refusal}
 use Rattle.bp_trail.specs.Trail.{Trail}
 use Rattle.bp_trail.specs.Clock.{durable}
 use Rattle.bp_trail.specs.Script.{unfix_of}
@@ -36,13 +35,3 @@ unmarked core zero (Some u) keeps none first =
     let raised : u.raised ≡ 0 = none in
     omega (arith, bound, raised)
 unmarked core (suc client) upkeep keeps none first = absurd (omega (arith, first))
-
--- why an answer was refused, if it was
-abbrev pub why : {A : Type 0} → Result A Refusal → Option Refusal
-why (Ok done) = None
-why (Err refusal) = Some refusal
-
--- there is none where it was not
-pub no_reason : (r : Refusal) (reason : Option Refusal) → reason ≡ None → reason ≡ Some r → ⊥
-no_reason r None none some = let no = some in cc
-no_reason r (Some s) none some = let no = none in cc

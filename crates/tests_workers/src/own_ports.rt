@@ -1,6 +1,5 @@
 //! Workers over ports of their own: which port did which reads and writes.
-ghost use Rattle.std.specs.Prelude.{◌≡◌, ◌≢◌, [], zip, Some, IfOk};
-ghost use Rattle.bp_page.specs.declared.refusals.Refusal.TheVariants as Refusal;
+ghost use Rattle.std.specs.Prelude.{◌≡◌, [], zip, IfOk};
 ghost use Rattle.bp_trail.specs.Clock.{durable};
 ghost use Rattle.bp_shared.specs.Sessions.{DoesWorkSaid};
 ghost use Rattle.bp_workers.specs.Lists.{SideBySide};
@@ -34,7 +33,7 @@ fn visit<N: PoolName, P: Port, R: Wait>(
 ) -> Option<Refusal>
     requires fresh { client.old.session.said ≡ [] }
     ensures client { client.new.session.client ≡ client.old.session.client }
-    ensures work { result ≢ Some Refusal.UnknownTicket → DoesWorkSaid P.read_gives P.write_gives
+    ensures work { DoesWorkSaid P.read_gives P.write_gives
         [] client.new.session.said client.old.port client.new.port }
 {
     let Some(page) = client.port.geometry().page(number) else {
@@ -50,14 +49,12 @@ fn visit<N: PoolName, P: Port, R: Wait>(
 }
 
 impl<P: Port> Worker<P, RecordingKeeper> for Visitor {
-    ghost use Rattle.std.specs.Prelude.{◌≡◌, ◌≢◌, [], Some, IfSome};
-    ghost use Rattle.bp_page.specs.declared.refusals.Refusal.TheVariants as Refusal;
+    ghost use Rattle.std.specs.Prelude.{◌≡◌, [], IfSome};
     ghost use Rattle.bp_shared.specs.Sessions.{DoesWorkSaid};
 
     // The port did the work of its session's list, and nothing else; and no mark was raised.
     ghost leaves = { λ _ _ given left kept session upkeep.
-        (left.refused ≢ Some Refusal.UnknownTicket →
-        DoesWorkSaid P.read_gives P.write_gives [] session.said given kept)
+        DoesWorkSaid P.read_gives P.write_gives [] session.said given kept
         × IfSome upkeep (λ u. u.raised ≡ 0) };
 
     fn work<N: PoolName, R: Wait>(
@@ -91,8 +88,7 @@ fn visit_all<P: Port + Send, R: Threads + Wait + Sync>(
 ) -> Result<Run<P, Visitor>, Refusal>
     ensures worked { IfOk result (λ run. SideBySide (λ client given left.
         (left.book.client ≡ client)
-        × (left.worker.refused ≢ Some Refusal.UnknownTicket
-        → DoesWorkSaid P.read_gives P.write_gives [] left.book.said given.1 left.port)
+        × DoesWorkSaid P.read_gives P.write_gives [] left.book.said given.1 left.port
         × (client ≡ 0 → durable run.core.past ≡ 0))
         0 (zip visitors.items ports.items) run.left.items) }
 {

@@ -1,18 +1,20 @@
 //! Questions to the core under the lock, which it answers of its trail as that is then.
-ghost use Rattle.std.specs.Prelude.{◌≡◌, ◌+◌, ◌^◌, ◌<◌, IfSome};
+ghost use Rattle.std.specs.Prelude.{◌≡◌, ◌+◌, ◌^◌, ◌<◌, IfSome, []};
 ghost use Rattle.bp_trail.specs.Saved.{IsRedoFrom};
 ghost use Rattle.bp_core.specs.Counts.{AreCounts};
 ghost use Rattle.bp_core.specs.Unsaved.{FindsUnsaved};
 ghost use Rattle.bp_shared.specs.Locked.{Enters};
-ghost use Rattle.bp_shared.specs.Telling.{Sees};
+ghost use Rattle.bp_shared.specs.Telling.{GoesOnFrom, Sees};
 
 use super::LockedPool;
 use crate::names::PoolName;
+use crate::receipt::Receipt;
 use crate::session::{Past, Session, Told};
 use bp_core::{PoolCore, Stats};
 use bp_keeper::ListKeeper;
 use bp_page::{Lsn, PageNo};
 use bp_session_log::Book;
+use std::marker::PhantomData;
 
 impl<N: PoolName, K: ListKeeper> LockedPool<N, K> {
     /// Shows the session the trail as it is.
@@ -27,6 +29,31 @@ impl<N: PoolName, K: ListKeeper> LockedPool<N, K> {
         self.seen
             .write::<PoolCore<K>, Past>(&mut session.seen, &self.core);
         self.core.keeps_the_rules();
+    }
+
+    /// Makes a receipt that has seen nothing.
+    pub(crate) fn receipt(&mut self) -> Receipt<N>
+        ensures blank { result ≡ [] }
+        ensures core { self.new ≡ self.old }
+    {
+        Receipt {
+            line: self.seen.line(),
+            of: PhantomData,
+        }
+    }
+
+    /// Shows the session, and a receipt, the trail as it is.
+    pub(crate) fn show_both(&mut self, session: &mut Session<N, K>, receipt: &mut Receipt<N>)
+        requires entered { Enters N.past session.old self.old }
+        ensures sees { Sees N.parameters N.past session.old session.new }
+        ensures core { self.new ≡ self.old }
+        ensures now { session.new.seen ≡ self.new.core.past }
+        ensures same { receipt.new ≡ session.new.seen }
+        ensures goes_on { GoesOnFrom receipt.old receipt.new }
+    {
+        self.show(session);
+        self.seen
+            .write::<PoolCore<K>, Past>(&mut receipt.line, &self.core);
     }
 
     /// Returns the first unsaved page from this number on.

@@ -1,14 +1,14 @@
 //! The events of a session, each in a critical section whose rings are drained. The session's list gets the event too;
 //! a fix and a flush first look at the mark once. The list is then written on the session's line of the board. None
 //! takes memory for the list: what an event wants there is taken before the lock.
-ghost use Rattle.std.specs.Prelude.{◌≡◌, ◌≢◌, ◌+◌, ◌<◌, ◌≤◌, false, length, IfOk};
+ghost use Rattle.std.specs.Prelude.{◌≡◌, ◌≢◌, ◌+◌, ◌%◌, ◌^◌, ◌<◌, ◌≤◌, false, length, IfOk};
 ghost use Rattle.bp_session_log.specs.Books.{OwesRead, OwesWrite};
 ghost use Rattle.bp_session_log.specs.Turns.{FixTurn, FlushTurn, EndReadOutcome, EndWriteOutcome};
 ghost use Rattle.bp_session_log.specs.Turns.{TickSaid, PurgeSaid, ReadSaid, ReadIntoSaid, WriteSaid};
 ghost use Rattle.bp_session_log.specs.Causes.{EndsRead, EndsWrite};
 ghost use Rattle.bp_core.specs.Outcomes.{TickOutcome, PurgeOutcome, ReadOutcome};
-ghost use Rattle.bp_core.specs.Outcomes.{ReadIntoOutcome, WriteOutcome};
-ghost use Rattle.bp_shared.specs.Locked.{Enters, InStep, FixStep, FlushStep, ends_after};
+ghost use Rattle.bp_core.specs.Outcomes.{pass_is_out, ReadIntoOutcome, WriteOutcome};
+ghost use Rattle.bp_shared.specs.Locked.{Enters, InStep, FixStep, FlushStep};
 
 use super::LockedPool;
 use crate::names::PoolName;
@@ -18,16 +18,6 @@ use bp_keeper::ListKeeper;
 use bp_mark::Mark;
 use bp_page::{Image, Lsn, PageNo, PortFault, Refusal};
 use bp_session_log::{Book, Fix, Flush, PendingRead, PendingWrite};
-
-/// The number of ends of device work after one more end, which does not count where its ticket was unknown.
-fn ends_after<T>(ends: u64, ended: &Result<T, Refusal>) -> u64
-    ensures { result ≡ ends_after ended.now ends }
-{
-    match ended {
-        Err(Refusal::UnknownTicket) => ends,
-        _ => ends.wrapping_add(1),
-    }
-}
 
 impl<N: PoolName, K: ListKeeper> LockedPool<N, K> {
     /// Asks for a page, after one look at the mark.
@@ -88,7 +78,8 @@ impl<N: PoolName, K: ListKeeper> LockedPool<N, K> {
         answer
     }
 
-    /// Ends a read. It takes no memory.
+    /// Ends a read. It takes no memory. The pool knows the ticket: it is the newest entry that the list told, and only its
+    /// own client can end it.
     pub(crate) fn end_read(
         &mut self,
         session: &mut Session<N, K>,
@@ -103,18 +94,19 @@ impl<N: PoolName, K: ListKeeper> LockedPool<N, K> {
         ensures seen { session.new.seen ≡ session.old.seen }
         ensures free { session.new.free ≡ session.old.free }
         ensures outcome { EndReadOutcome ticket read result session.old.said session.new.said }
-        ensures ends { self.new.ends ≡ ends_after result self.old.ends }
+        ensures ends { self.new.ends ≡ (self.old.ends + 1) % 2 ^ 64 }
+        ensures known { result ≢ Err Refusal.UnknownTicket }
         ensures in_step { InStep (λ core after. EndsRead core ticket read result after)
             self.old session.old.said self.new session.new.said }
     {
         let ended = session.book.end_read(&mut self.core, ticket, read);
-        self.ends = ends_after(self.ends, &ended);
+        self.ends = self.ends.wrapping_add(1);
         self.board
             .write::<Book<K>, Told>(&mut session.line, &session.book);
         ended
     }
 
-    /// Ends a write-out. It takes no memory.
+    /// Ends a write-out. It takes no memory. The pool knows the ticket, as at the end of a read.
     pub(crate) fn end_write(
         &mut self,
         session: &mut Session<N, K>,
@@ -128,12 +120,13 @@ impl<N: PoolName, K: ListKeeper> LockedPool<N, K> {
         ensures seen { session.new.seen ≡ session.old.seen }
         ensures free { session.new.free ≡ session.old.free }
         ensures outcome { EndWriteOutcome ticket written result session.old.said session.new.said }
-        ensures ends { self.new.ends ≡ ends_after result self.old.ends }
+        ensures ends { self.new.ends ≡ (self.old.ends + 1) % 2 ^ 64 }
+        ensures known { result ≢ Err Refusal.UnknownTicket }
         ensures in_step { InStep (λ core after. EndsWrite core ticket written result after)
             self.old session.old.said self.new session.new.said }
     {
         let ended = session.book.end_write_out(&mut self.core, ticket, written);
-        self.ends = ends_after(self.ends, &ended);
+        self.ends = self.ends.wrapping_add(1);
         self.board
             .write::<Book<K>, Told>(&mut session.line, &session.book);
         ended
@@ -189,6 +182,8 @@ impl<N: PoolName, K: ListKeeper> LockedPool<N, K> {
         requires room { 0 < session.old.room }
         requires copies { 0 < session.old.copies }
         ensures size { IfOk result (λ image. length image ≡ N.parameters.size) }
+        ensures unknown { result ≡ Err Refusal.UnknownPass
+            → pass_is_out pass.now session.old.said ≡ false }
         ensures client { session.new.client ≡ session.old.client }
         ensures before { session.new.before ≡ session.old.before }
         ensures seen { session.new.seen ≡ session.old.seen }
@@ -218,6 +213,8 @@ impl<N: PoolName, K: ListKeeper> LockedPool<N, K> {
         requires fits { offset + length into.old ≤ N.parameters.size }
         requires room { 0 < session.old.room }
         requires copies { 0 < session.old.copies }
+        ensures unknown { result ≡ Err Refusal.UnknownPass
+            → pass_is_out pass.now session.old.said ≡ false }
         ensures client { session.new.client ≡ session.old.client }
         ensures before { session.new.before ≡ session.old.before }
         ensures seen { session.new.seen ≡ session.old.seen }
@@ -253,6 +250,8 @@ impl<N: PoolName, K: ListKeeper> LockedPool<N, K> {
         requires fits { offset + length bytes.now ≤ N.parameters.size }
         requires room { 0 < session.old.room }
         requires spare { K.serves_bytes spare bytes.now }
+        ensures unknown { result ≡ Err Refusal.UnknownPass
+            → pass_is_out pass.now session.old.said ≡ false }
         ensures client { session.new.client ≡ session.old.client }
         ensures before { session.new.before ≡ session.old.before }
         ensures seen { session.new.seen ≡ session.old.seen }

@@ -1,15 +1,17 @@
 //! Questions of a checkpoint, and a pool's counts. Each call takes the lock once, drains the rings, and adds no entry
 //! of its own. Its answer holds of the trail as the session then saw it: a legal list which has exactly the client's
-//! entries so far, unfixes aside, and goes on from what the session saw before. When the session ends, the pool's trail
-//! goes on from it. That it is the trail of that moment, and no older part, is proved only under the lock.
-ghost use Rattle.std.specs.Prelude.{◌≡◌, ◌+◌, ◌^◌, ◌<◌, IfSome};
+//! entries so far, each unfix in its place, and goes on from what the session saw before. When the session ends, the
+//! pool's trail goes on from it. What others had done by then is known by a receipt: `show`.
+ghost use Rattle.std.specs.Prelude.{◌≡◌, ◌+◌, ◌^◌, ◌<◌, IfSome, []};
 ghost use Rattle.bp_trail.specs.Saved.{IsRedoFrom};
 ghost use Rattle.bp_core.specs.Counts.{AreCounts};
 ghost use Rattle.bp_core.specs.Unsaved.{FindsUnsaved};
-ghost use Rattle.bp_shared.specs.Telling.{Sees};
+ghost use Rattle.bp_shared.specs.Telling.{GoesOnFrom, Sees};
 
 use super::SharedPool;
+use crate::locking::locked;
 use crate::names::PoolName;
+use crate::receipt::Receipt;
 use crate::session::Session;
 use bp_core::Stats;
 use bp_keeper::ListKeeper;
@@ -17,6 +19,28 @@ use bp_page::{Lsn, PageNo};
 use std::sync::Wait;
 
 impl<N: PoolName, K: ListKeeper> SharedPool<N, K> {
+    /// Makes a receipt that has seen nothing of the trail. It takes the lock once, and no memory.
+    pub fn receipt<R: Wait>(&self, rt: &R) -> Receipt<N>
+        ensures { result ≡ [] }
+    {
+        let mut state = locked(rt, &self.state);
+        state.receipt()
+    }
+
+    /// Shows the session, and a receipt, the trail as it is: all that either saw before stands in it, and the client's
+    /// entries are the session's list. It takes the lock once, and no memory.
+    ///
+    /// So whoever wrote shows its session and the receipt, and whoever asks for a checkpoint does so before it asks: then
+    /// the answer holds of a trail that has those writes.
+    pub fn show<R: Wait>(&self, rt: &R, session: &mut Session<N, K>, receipt: &mut Receipt<N>)
+        ensures sees { Sees N.parameters N.past session.old session.new }
+        ensures same { receipt.new ≡ session.new.seen }
+        ensures goes_on { GoesOnFrom receipt.old receipt.new }
+    {
+        let mut state = self.lock_and_drain(rt, session);
+        state.show_both(session, receipt);
+    }
+
     /// Returns the first unsaved page from this number on, if there is one. It costs O(log pages) at most. Other
     /// clients may write the page, or another, before the call returns.
     pub fn next_unsaved<R: Wait>(

@@ -35,6 +35,7 @@ impl<N: PoolName, K: ListKeeper> SharedPool<N, K> {
         ensures seen { session.new.seen ≡ session.old.seen }
         ensures free { AllFree session.old.free session.new.free }
         ensures port { P.geometry_of port.new ≡ P.geometry_of port.old }
+        ensures known { result ≢ Err Refusal.UnknownTicket }
         ensures outcome { LoadOutcome S.gives ticket result session.old.said session.new.said
             port.old port.new }
     {
@@ -61,6 +62,7 @@ impl<N: PoolName, K: ListKeeper> SharedPool<N, K> {
         ensures seen { session.new.seen ≡ session.old.seen }
         ensures free { AllFree session.old.free session.new.free }
         ensures port { P.geometry_of port.new ≡ P.geometry_of port.old }
+        ensures known { result ≢ Err Refusal.UnknownTicket }
         ensures outcome { WriteOutOutcome P.write_gives ticket result session.old.said
             session.new.said port.old port.new }
     {
@@ -100,11 +102,11 @@ impl<N: PoolName, K: ListKeeper> SharedPool<N, K> {
     /// first, through the port and with no lock held; where another client has the page in flight, the call waits for
     /// the end of some device work and asks again. Before each fix of the core it looks at the mark once. The device
     /// does the work of the entries that the list gets, and nothing else: each read is of the page, each write of the
-    /// victim's, with its image. Nothing is promised of the device where the call answers `UnknownTicket`.
+    /// victim's, with its image.
     ///
     /// The session's list gets the events as the trail does. `NoVictim`, `NeedLog`, `ReadFailed`, `WrongPage` and
     /// `WriteFailed` are the reply of the last one. `TrailFull` and `OutOfMemory` make no event, and those made before
-    /// stand; `UnknownTicket` is the pool's answer for a ticket that it does not know, which is forfeited.
+    /// stand. The pool knows the ticket of each read and write-out that the call began, so it is never `UnknownTicket`.
     pub fn fix<P: Port, R: Wait>(
         &self,
         rt: &R,
@@ -120,7 +122,8 @@ impl<N: PoolName, K: ListKeeper> SharedPool<N, K> {
         ensures free { FreesRing result session.old.free session.new.free }
         ensures port { P.geometry_of port.new ≡ P.geometry_of port.old }
         ensures outcome { FixSaid session.old.client page result session.old.said session.new.said }
-        ensures work { result ≢ Err Refusal.UnknownTicket → DoesWorkSaid P.read_gives P.write_gives
+        ensures known { result ≢ Err Refusal.UnknownTicket }
+        ensures work { DoesWorkSaid P.read_gives P.write_gives
             session.old.said session.new.said port.old port.new }
     {
         self.fix_from(rt, session, port, &FromPort, page)
@@ -147,8 +150,8 @@ impl<N: PoolName, K: ListKeeper> SharedPool<N, K> {
         ensures free { FreesRing result session.old.free session.new.free }
         ensures port { P.geometry_of port.new ≡ P.geometry_of port.old }
         ensures outcome { FixSaid session.old.client page result session.old.said session.new.said }
-        ensures work { result ≢ Err Refusal.UnknownTicket → DoesWorkSaid
-            (λ at. MadeBlank (P.geometry_of at).size at) P.write_gives
+        ensures known { result ≢ Err Refusal.UnknownTicket }
+        ensures work { DoesWorkSaid (λ at. MadeBlank (P.geometry_of at).size at) P.write_gives
             session.old.said session.new.said port.old port.new }
     {
         let zeros = Zeros { alloc: self.alloc };
@@ -172,7 +175,8 @@ impl<N: PoolName, K: ListKeeper> SharedPool<N, K> {
         ensures free { FreesRing result session.old.free session.new.free }
         ensures port { P.geometry_of port.new ≡ P.geometry_of port.old }
         ensures outcome { FixSaid session.old.client page result session.old.said session.new.said }
-        ensures work { result ≢ Err Refusal.UnknownTicket → DoesWorkSaid S.gives P.write_gives
+        ensures known { result ≢ Err Refusal.UnknownTicket }
+        ensures work { DoesWorkSaid S.gives P.write_gives
             session.old.said session.new.said port.old port.new }
     {
         for _ in rt.forever() {

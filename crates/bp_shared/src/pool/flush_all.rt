@@ -11,7 +11,7 @@ use bp_ports::Port;
 use std::sync::Wait;
 
 impl<N: PoolName, K: ListKeeper> SharedPool<N, K> {
-    ghost use Rattle.std.specs.Prelude.{◌≡◌, Err};
+    ghost use Rattle.std.specs.Prelude.{◌≡◌, ◌≢◌, IfErr};
     ghost use Rattle.bp_shared.specs.FlushAll.{FlushAllSaid};
     ghost use Rattle.bp_shared.specs.Sessions.{AllFree, DoesWorkSaid};
 
@@ -35,8 +35,8 @@ impl<N: PoolName, K: ListKeeper> SharedPool<N, K> {
         ensures port { P.geometry_of port.new ≡ P.geometry_of port.old }
         ensures outcome { FlushAllSaid (record { parameters = N.parameters; start = N.past })
             result session.old session.new }
-        ensures work { ((stop : _) → result ≡ Err stop → stop.why ≡ Refusal.UnknownTicket → ⊥)
-            → DoesWorkSaid P.read_gives P.write_gives session.old.said session.new.said
+        ensures known { IfErr result (λ stop. stop.why ≢ Refusal.UnknownTicket) }
+        ensures work { DoesWorkSaid P.read_gives P.write_gives session.old.said session.new.said
             port.old port.new }
     {
         let mut from = 0;

@@ -42,7 +42,7 @@ impl<N: PoolName, K: ListKeeper> SharedPool<N, K> {
     /// looks at the mark once. The device does the work of the entries that the list gets, as in `fix`.
     ///
     /// The session's list gets the events as the trail does. `NeedLog` and `WriteFailed` are the reply of the last one;
-    /// `TrailFull`, `OutOfMemory` and `UnknownTicket` as from `fix`.
+    /// `TrailFull` and `OutOfMemory` as from `fix`.
     pub fn flush<P: Port, R: Wait>(
         &self,
         rt: &R,
@@ -58,7 +58,8 @@ impl<N: PoolName, K: ListKeeper> SharedPool<N, K> {
         ensures port { P.geometry_of port.new ≡ P.geometry_of port.old }
         ensures outcome { FlushSaid session.old.client page result
             session.old.said session.new.said }
-        ensures work { result ≢ Err Refusal.UnknownTicket → DoesWorkSaid P.read_gives P.write_gives
+        ensures known { result ≢ Err Refusal.UnknownTicket }
+        ensures work { DoesWorkSaid P.read_gives P.write_gives
             session.old.said session.new.said port.old port.new }
     {
         for _ in rt.forever() {

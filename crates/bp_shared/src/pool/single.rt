@@ -12,7 +12,7 @@ use std::sync::Wait;
 impl<N: PoolName, K: ListKeeper> SharedPool<N, K> {
     ghost use Rattle.std.specs.Prelude.{◌≡◌, ◌≢◌, ◌+◌, ◌≤◌, false, length, IfOk};
     ghost use Rattle.bp_session_log.specs.Turns.{TickSaid, PurgeSaid, ReadSaid, ReadIntoSaid, WriteSaid};
-    ghost use Rattle.bp_shared.specs.Sessions.{FreesRing, IsRoomy};
+    ghost use Rattle.bp_shared.specs.Sessions.{FreesRing, IsRoomy, LacksOwn};
 
     /// Moves the clock on by `n` ticks. `OutOfMemory`, `TrailFull` and `ClockFull` change nothing. A silent session
     /// answers `OutOfMemory` only where what it keeps for itself has to grow.
@@ -61,6 +61,7 @@ impl<N: PoolName, K: ListKeeper> SharedPool<N, K> {
         ensures free { FreesRing result session.old.free session.new.free }
         ensures size { IfOk result (λ image. length image ≡ N.parameters.size) }
         ensures stranger { pass.now.client ≢ session.old.client → result ≡ Err Refusal.UnknownPass }
+        ensures unknown { result ≡ Err Refusal.UnknownPass → LacksOwn pass.now session.old }
         ensures outcome { ReadSaid session.old.client pass.now result
             session.old.said session.new.said }
     {
@@ -89,6 +90,7 @@ impl<N: PoolName, K: ListKeeper> SharedPool<N, K> {
         ensures seen { session.new.seen ≡ session.old.seen }
         ensures free { FreesRing result session.old.free session.new.free }
         ensures stranger { pass.now.client ≢ session.old.client → result ≡ Err Refusal.UnknownPass }
+        ensures unknown { result ≡ Err Refusal.UnknownPass → LacksOwn pass.now session.old }
         ensures outcome { ReadIntoSaid session.old.client pass.now offset into.old result into.new
             session.old.said session.new.said }
         ensures memory { K.REFUSES ≡ false → IsRoomy session.old
@@ -119,6 +121,7 @@ impl<N: PoolName, K: ListKeeper> SharedPool<N, K> {
         ensures seen { session.new.seen ≡ session.old.seen }
         ensures free { FreesRing result session.old.free session.new.free }
         ensures stranger { pass.now.client ≢ session.old.client → result ≡ Err Refusal.UnknownPass }
+        ensures unknown { result ≡ Err Refusal.UnknownPass → LacksOwn pass.now session.old }
         ensures outcome { WriteSaid session.old.client pass.now offset bytes.now lsn result
             session.old.said session.new.said }
         ensures memory { K.REFUSES ≡ false → IsRoomy session.old
@@ -143,6 +146,7 @@ impl<N: PoolName, K: ListKeeper> SharedPool<N, K> {
         ensures seen { session.new.seen ≡ session.old.seen }
         ensures free { FreesRing result session.old.free session.new.free }
         ensures stranger { pass.now.client ≢ session.old.client → result ≡ Err Refusal.UnknownPass }
+        ensures unknown { result ≡ Err Refusal.UnknownPass → LacksOwn pass.now session.old }
         ensures outcome { WriteSaid session.old.client pass.now offset bytes.now lsn result
             session.old.said session.new.said }
         ensures memory { K.REFUSES ≡ false → IsRoomy session.old

@@ -1,4 +1,5 @@
-//! `collect`: compares each client's list with the trail once all threads have ended, and joins what the clients left.
+//! `collect`: joins what the clients left once all threads have ended. That each client's list is the trail's part is
+//! proved; what is looked at here is that each script was run whole, and that the log of client 0 bounds the marks.
 ghost use Rattle.std.specs.Prelude.{◌≡◌, false, OnOk, OnErr, [], ◌∷◌, ◌++◌, All, IfErr, IsTrue};
 ghost use Rattle.std.specs.Prelude.{map, reverse};
 ghost use Rattle.bp_page.specs.declared.refusals.Refusal.TheVariants as Refusal;
@@ -11,23 +12,16 @@ use crate::worker::Left;
 use bp_core::{Entry, Refused};
 use bp_page::Refusal;
 use bp_ports::Port;
-use bp_trail::agrees;
 
-/// Returns true if a client played its whole script and gave all passes back, its list is what the trail has of it, and
-/// the log of client 0 bounds the marks.
+/// Returns true if a client played its whole script and gave all passes back, and the log of client 0 bounds the marks.
 fn is_agreed<P: Port>(trail: &[Entry], left: &Left<P, ScriptPlayer>) -> bool
-    requires uncut { left.now.book.before ≡ [] }
     ensures agrees { IsTrue result → Agrees trail.now (left_value left.now) }
     ensures disagrees { result ≡ false → Disagrees trail.now (left_value left.now) }
 {
     if !left.worker.is_done() || !left.all_went_back {
         return false;
     }
-    let client = left.book.client();
-    if !agrees(trail, left.said(), client) {
-        return false;
-    }
-    client != 0 || left.worker.bounds_marks(trail)
+    left.book.client() != 0 || left.worker.bounds_marks(trail)
 }
 
 /// Adds refused rows. The room for them was reserved before.
@@ -77,8 +71,7 @@ fn add_left<P: Port>(
 }
 
 /// Adds what the clients left, one after the other. `Disagree` where a script was not run whole or a pass did not go
-/// back, where a list is not what the trail has of its client, or where a mark came before the log rows of client 0
-/// allow it.
+/// back, or where a mark came before the log rows of client 0 allow it.
 pub(crate) fn collect<P: Port>(
     trail: &[Entry],
     left: Vec<Left<P, ScriptPlayer>>,

@@ -27,8 +27,7 @@ fn as_fault(refusal: Refusal) -> Refusal
     }
 }
 
-/// Gives a pass back. `Disagree` where the session does not know the pass, or where its ring is full, though it was
-/// emptied.
+/// Gives a pass back. `Disagree` where the session does not know the pass.
 fn unfix_note<N: PoolName, R: Wait>(
     rt: &R,
     pool: &SharedPool<N>,
@@ -61,8 +60,8 @@ fn fix<N: PoolName, P: Port, R: Wait>(
     requires page_in { page < N.parameters.pages }
     requires held { held.old.passes ≡ held_passes client.old.session.said }
     ensures same { Stays client.old.session client.new.session }
-    ensures work { result ≢ Err Refusal.UnknownTicket → DoesWorkSaid P.read_gives P.write_gives
-        client.old.session.said client.new.session.said client.old.port client.new.port }
+    ensures work { DoesWorkSaid P.read_gives P.write_gives client.old.session.said client.new.session.said
+        client.old.port client.new.port }
     ensures outcome { StepSaid client.old.session.client (Step.Fix page)
         (outcome_of result) client.old.session.said client.new.session.said }
     ensures held { held.new.passes ≡ held_passes client.new.session.said }
@@ -81,8 +80,8 @@ fn flush<N: PoolName, P: Port, R: Wait>(
 ) -> Result<(), Refusal>
     requires page_in { page < N.parameters.pages }
     ensures same { Stays client.old.session client.new.session }
-    ensures work { result ≢ Err Refusal.UnknownTicket → DoesWorkSaid P.read_gives P.write_gives
-        client.old.session.said client.new.session.said client.old.port client.new.port }
+    ensures work { DoesWorkSaid P.read_gives P.write_gives client.old.session.said client.new.session.said
+        client.old.port client.new.port }
     ensures outcome { StepSaid client.old.session.client (Step.Flush page)
         (outcome_of result) client.old.session.said client.new.session.said }
     ensures held { held_passes client.new.session.said ≡ held_passes client.old.session.said }
@@ -232,8 +231,8 @@ pub(crate) fn step<N: PoolName, P: Port, R: Wait>(
     requires fits { StepFits N.parameters step.now }
     requires held { held.old.passes ≡ held_passes client.old.session.said }
     ensures same { Stays client.old.session client.new.session }
-    ensures work { result ≢ Err Refusal.UnknownTicket → StepWork P.read_gives P.write_gives
-        step.now client.old.session.said client.new.session.said client.old.port client.new.port }
+    ensures work { StepWork P.read_gives P.write_gives step.now client.old.session.said client.new.session.said
+        client.old.port client.new.port }
     ensures outcome { StepSaid client.old.session.client step.now
         (outcome_of result) client.old.session.said client.new.session.said }
     ensures held { held.new.passes ≡ held_passes client.new.session.said }

@@ -85,5 +85,6 @@ returns g c =
         kept = s.book.kept;
       };
       free = omega (arith, places, seen.producer.2, looked.looked.2);
+      legal = c.keeps_the_rules.ensures.legal;
       list = listed_by _ _ s.book.client _ _ _ _ _ s.book.said _ shown c.session.invariant.3 c.write.ensures all.all;
     })

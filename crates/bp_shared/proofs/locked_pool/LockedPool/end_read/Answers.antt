@@ -3,6 +3,7 @@ use Rattle.std.proofs.Common.{rules, refl}
 use Rattle.bp_shared.proofs.Stepping.{step_one}
 use Rattle.bp_shared.proofs.Telling.{adds_one, end_read_one, earlier_adds, shown_more}
 use Rattle.bp_shared.proofs.Posting.{posted_adds}
+use Rattle.bp_shared.proofs.Owning.{read-known, read-not-unknown}
 use Rattle.bp_shared.proofs.locked_pool.LockedPool.end_read.Goals as goal
 
 pub invariant_of-self : goal.invariant_of-self
@@ -25,7 +26,9 @@ returns g c =
       before = done.owner.before;
       seen = refl;
       free = refl;
-      ends = c.ends_after-self-inside.ensures;
+      ends = refl;
+      known = read-not-unknown c.self.inside.core c.end_read-ended.new.core c.args.ticket _ _ done.ended
+          (read-known _ _ _ _ _ _ (rw (← c.self.view_is) at c.requires.entered.legal) (rw (← c.self.view_is, ← c.session.view_is) at c.requires.entered.list_is) (rw (← c.session.view_is) at c.requires.owes));
       outcome = done.outcome;
       in_step = step_one _ _ _ _ _ refl done.ended done.alike;
     })

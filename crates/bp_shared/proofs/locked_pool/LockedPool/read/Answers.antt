@@ -3,6 +3,7 @@ use Rattle.std.proofs.Common.{rules, refl}
 use Rattle.bp_shared.proofs.Stepping.{step_one}
 use Rattle.bp_shared.proofs.Telling.{adds_one, read_one, earlier_adds, shown_more}
 use Rattle.bp_shared.proofs.Posting.{posted_adds}
+use Rattle.bp_shared.proofs.Owning.{read-lacks}
 use Rattle.bp_shared.proofs.locked_pool.LockedPool.read.Goals as goal
 
 pub invariant_of-self : goal.invariant_of-self
@@ -28,5 +29,7 @@ returns g c =
       ends = refl;
       outcome = done.outcome;
       size = rw c.session.invariant.1 at done.size;
+      unknown = read-lacks _ _ _ _ _ _ _ _ done.asked (rw (← c.self.view_is) at c.requires.entered.legal)
+          (rw (← c.self.view_is, ← c.session.view_is) at c.requires.entered.list_is) (rw (← c.session.view_is) at c.requires.own);
       in_step = step_one _ _ _ _ _ refl done.asked done.alike;
     })

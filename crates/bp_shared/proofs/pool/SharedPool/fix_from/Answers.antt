@@ -6,7 +6,7 @@ use Rattle.bp_session_log.specs.declared.pending.Fix.{Fix as Fixing}
 use Rattle.bp_shared.specs.Sessions.{FixSaid}
 use Rattle.bp_shared.proofs.Freeing.{freed, may_free, all_more, may_more, refused_more}
 use Rattle.bp_shared.proofs.Fixing.{waits_none, turn_more, hit_said, busy_waits, refused_said, load_said, written_waits, unwritten_said}
-use Rattle.bp_shared.proofs.Working.{none-yet, fix-turn-work, load-work, write-work, began-by-fix, unerr}
+use Rattle.bp_shared.proofs.Working.{none-yet, fix-turn-work, load-work, write-work, began-by-fix, unerr, known-fix}
 use Rattle.bp_shared.proofs.pool.SharedPool.fix_from.Goals as goal
 
 pub loop-init : goal.loop-init
@@ -23,7 +23,8 @@ returns-in-Ok-Hit g c =
       free = all_more _ _ _ i.free c.in-Ok-Hit.ensures.free;
       port = i.port;
       outcome = hit_said _ _ c.in-Ok-Hit.pass _ _ (turn_more _ _ _ _ _ _ i.waits t);
-      work = λ known. fix-turn-work _ _ _ _ _ _ _ _ _ _ i.work t;
+      known = λ unknown. let no = unknown in cc;
+      work = fix-turn-work _ _ _ _ _ _ _ _ _ _ i.work t;
     }
 
 pub returns-in-Ok-Load : goal.returns-in-Ok-Load
@@ -37,7 +38,8 @@ returns-in-Ok-Load g c =
       free = freed _ _ _ (all_more _ _ _ (may_more _ _ _ i.free (may_free _ _ _ c.ask_fix.ensures.free)) c.load.ensures.free);
       port = c.load.ensures.port ∙ i.port;
       outcome = load_said _ _ _ _ _ c.in-Ok-Load.ticket _ _ _ _ _ (turn_more _ _ _ _ _ _ i.waits t) c.load.ensures.outcome;
-      work = λ known. load-work _ _ c.in-Ok-Load.ticket _ _ _ _ _ _ _ (fix-turn-work _ _ _ _ _ _ _ _ _ _ i.work t) c.load.ensures.outcome known;
+      known = c.load.ensures.known;
+      work = load-work _ _ c.in-Ok-Load.ticket _ _ _ _ _ _ _ (fix-turn-work _ _ _ _ _ _ _ _ _ _ i.work t) c.load.ensures.outcome c.load.ensures.known;
     }
 
 pub loop-preserved-in_ok-write_out-in-Ok-WriteFirst : goal.loop-preserved-in_ok-write_out-in-Ok-WriteFirst
@@ -61,6 +63,7 @@ returns-in_err-write_out-in-Ok-WriteFirst g c =
     let t = rw (c.in-Ok-WriteFirst.field-0-is, i.client) at c.in-Ok-WriteFirst.ensures.turn in
     let o = c.in_err-write_out-in-Ok-WriteFirst.ensures.outcome in
     let is = err_from_is_err_and c.from_residual.result c.from_residual.ensures.1 in
+    let known = c.in_err-write_out-in-Ok-WriteFirst.ensures.known in
     record {
       client = c.write_out.ensures.client ∙ c.ask_fix.ensures.client ∙ i.client;
       before = c.write_out.ensures.before ∙ c.ask_fix.ensures.before ∙ i.before;
@@ -69,7 +72,8 @@ returns-in_err-write_out-in-Ok-WriteFirst g c =
       port = c.write_out.ensures.port ∙ i.port;
       outcome = subst (λ r. FixSaid c.args.session.now.client c.args.page r c.args.session.now.said c.write_out.new.session.said) (sym (is.1 ∙ ap Err is.2))
           (unwritten_said _ _ _ _ _ c.in-Ok-WriteFirst.ticket c.in_err-write_out-in-Ok-WriteFirst.field-0.0 _ _ _ (turn_more _ _ _ _ _ _ i.waits t) o);
-      work = λ known. write-work _ _ c.in-Ok-WriteFirst.ticket _ _ _ _ _ _ _ (fix-turn-work _ _ _ _ _ _ _ _ _ _ i.work t) (began-by-fix _ _ c.in-Ok-WriteFirst.ticket _ _ t) o (λ unknown. known (is.1 ∙ ap Err is.2 ∙ unerr unknown));
+      known = λ unknown. known (unerr (sym (is.1 ∙ ap Err is.2) ∙ unknown));
+      work = write-work _ _ c.in-Ok-WriteFirst.ticket _ _ _ _ _ _ _ (fix-turn-work _ _ _ _ _ _ _ _ _ _ i.work t) (began-by-fix _ _ c.in-Ok-WriteFirst.ticket _ _ t) o known;
     }
 
 pub loop-preserved : goal.loop-preserved
@@ -82,4 +86,4 @@ pub returns-in_default : goal.returns-in_default
 returns-in_default g c =
     let i = c.loop.invariant in
     let t = rw i.client at c.in-Err.ensures.turn in
-    record { client = c.ask_fix.ensures.client ∙ i.client; before = c.ask_fix.ensures.before ∙ i.before; seen = c.ask_fix.ensures.seen ∙ i.seen; free = refused_more Fixing Pass _ _ _ _ i.free c.in-Err.ensures.free; port = i.port; outcome = refused_said _ _ c.in-Err.refusal _ _ c.in_default.not-Busy (turn_more _ _ _ _ _ _ i.waits t); work = λ known. fix-turn-work _ _ _ _ _ _ _ _ _ _ i.work t }
+    record { client = c.ask_fix.ensures.client ∙ i.client; before = c.ask_fix.ensures.before ∙ i.before; seen = c.ask_fix.ensures.seen ∙ i.seen; free = refused_more Fixing Pass _ _ _ _ i.free c.in-Err.ensures.free; port = i.port; outcome = refused_said _ _ c.in-Err.refusal _ _ c.in_default.not-Busy (turn_more _ _ _ _ _ _ i.waits t); known = known-fix Pass c.in-Err.refusal t.asks.0; work = fix-turn-work _ _ _ _ _ _ _ _ _ _ i.work t }

@@ -6,7 +6,7 @@ use Rattle.bp_session_log.specs.declared.pending.Flush.{Flush as Flushing}
 use Rattle.bp_shared.specs.Sessions.{FlushSaid}
 use Rattle.bp_shared.proofs.Freeing.{freed, may_free, all_more, may_more, refused_more}
 use Rattle.bp_shared.proofs.Flushing.{flush_waits_none, flush_turn_more, clean_said, absent_said, flush_busy_waits, flush_refused_said, flushed_said, unflushed_said}
-use Rattle.bp_shared.proofs.Working.{none-yet, flush-turn-work, write-work, began-by-flush, unerr}
+use Rattle.bp_shared.proofs.Working.{none-yet, flush-turn-work, write-work, began-by-flush, unerr, known-flush}
 use Rattle.bp_shared.proofs.pool.SharedPool.flush.Goals as goal
 
 pub loop-init : goal.loop-init
@@ -23,7 +23,8 @@ returns-in-Ok-Clean g c =
       free = all_more _ _ _ i.free c.in-Ok-Clean.ensures.free;
       port = i.port;
       outcome = clean_said _ _ _ _ (flush_turn_more _ _ _ _ _ _ i.waits t);
-      work = λ known. flush-turn-work _ _ _ _ _ _ _ _ _ _ i.work t;
+      known = λ unknown. let no = unknown in cc;
+      work = flush-turn-work _ _ _ _ _ _ _ _ _ _ i.work t;
     }
 
 pub returns-in-Ok-Absent : goal.returns-in-Ok-Absent
@@ -37,7 +38,8 @@ returns-in-Ok-Absent g c =
       free = all_more _ _ _ i.free c.in-Ok-Absent.ensures.free;
       port = i.port;
       outcome = absent_said _ _ _ _ (flush_turn_more _ _ _ _ _ _ i.waits t);
-      work = λ known. flush-turn-work _ _ _ _ _ _ _ _ _ _ i.work t;
+      known = λ unknown. let no = unknown in cc;
+      work = flush-turn-work _ _ _ _ _ _ _ _ _ _ i.work t;
     }
 
 pub returns-in-Ok-WriteFirst : goal.returns-in-Ok-WriteFirst
@@ -52,7 +54,8 @@ returns-in-Ok-WriteFirst g c =
       free = all_more _ _ _ (may_more _ _ _ i.free (may_free _ _ _ c.ask_flush.ensures.free)) c.write_out.ensures.free;
       port = c.write_out.ensures.port ∙ i.port;
       outcome = flushed_said _ _ _ _ _ c.in-Ok-WriteFirst.ticket c.in_ok-ended-in-Ok-WriteFirst.ended c.flushed.result _ _ _ (flush_turn_more _ _ _ _ _ _ i.waits t) c.flushed.ensures o;
-      work = λ known. write-work _ _ c.in-Ok-WriteFirst.ticket _ _ _ _ _ _ _ (flush-turn-work _ _ _ _ _ _ _ _ _ _ i.work t) (began-by-flush _ _ c.in-Ok-WriteFirst.ticket _ _ t) o (λ unknown. absurd (let no = unknown in cc));
+      known = λ unknown. let no = unknown in cc;
+      work = write-work _ _ c.in-Ok-WriteFirst.ticket _ _ _ _ _ _ _ (flush-turn-work _ _ _ _ _ _ _ _ _ _ i.work t) (began-by-flush _ _ c.in-Ok-WriteFirst.ticket _ _ t) o (λ unknown. absurd (let no = unknown in cc));
     }
 
 pub returns-in_err-ended-in-Ok-WriteFirst : goal.returns-in_err-ended-in-Ok-WriteFirst
@@ -61,6 +64,7 @@ returns-in_err-ended-in-Ok-WriteFirst g c =
     let t = rw (c.in-Ok-WriteFirst.field-0-is, i.client) at c.in-Ok-WriteFirst.ensures.turn in
     let o = rw c.in-Ok-WriteFirst.ticket-is at c.in_err-ended-in-Ok-WriteFirst.ensures.outcome in
     let is = err_from_is_err_and c.from_residual.result c.from_residual.ensures.1 in
+    let known = c.in_err-ended-in-Ok-WriteFirst.ensures.known in
     record {
       client = c.write_out.ensures.client ∙ c.ask_flush.ensures.client ∙ i.client;
       before = c.write_out.ensures.before ∙ c.ask_flush.ensures.before ∙ i.before;
@@ -69,7 +73,8 @@ returns-in_err-ended-in-Ok-WriteFirst g c =
       port = c.write_out.ensures.port ∙ i.port;
       outcome = subst (λ r. FlushSaid c.args.session.now.client c.args.page r c.args.session.now.said c.write_out.new.session.said) (sym (is.1 ∙ ap Err is.2))
           (unflushed_said _ _ _ _ _ c.in-Ok-WriteFirst.ticket c.in_err-ended-in-Ok-WriteFirst.field-0.0 _ _ _ (flush_turn_more _ _ _ _ _ _ i.waits t) o);
-      work = λ known. write-work _ _ c.in-Ok-WriteFirst.ticket _ _ _ _ _ _ _ (flush-turn-work _ _ _ _ _ _ _ _ _ _ i.work t) (began-by-flush _ _ c.in-Ok-WriteFirst.ticket _ _ t) o (λ unknown. known (is.1 ∙ ap Err is.2 ∙ unerr unknown));
+      known = λ unknown. known (unerr (sym (is.1 ∙ ap Err is.2) ∙ unknown));
+      work = write-work _ _ c.in-Ok-WriteFirst.ticket _ _ _ _ _ _ _ (flush-turn-work _ _ _ _ _ _ _ _ _ _ i.work t) (began-by-flush _ _ c.in-Ok-WriteFirst.ticket _ _ t) o known;
     }
 
 pub loop-preserved : goal.loop-preserved
@@ -82,4 +87,4 @@ pub returns-in_default : goal.returns-in_default
 returns-in_default g c =
     let i = c.loop.invariant in
     let t = rw i.client at c.in-Err.ensures.turn in
-    record { client = c.ask_flush.ensures.client ∙ i.client; before = c.ask_flush.ensures.before ∙ i.before; seen = c.ask_flush.ensures.seen ∙ i.seen; free = refused_more Flushing Flushed _ _ _ _ i.free c.in-Err.ensures.free; port = i.port; outcome = flush_refused_said _ _ c.in-Err.refusal _ _ c.in_default.not-Busy (flush_turn_more _ _ _ _ _ _ i.waits t); work = λ known. flush-turn-work _ _ _ _ _ _ _ _ _ _ i.work t }
+    record { client = c.ask_flush.ensures.client ∙ i.client; before = c.ask_flush.ensures.before ∙ i.before; seen = c.ask_flush.ensures.seen ∙ i.seen; free = refused_more Flushing Flushed _ _ _ _ i.free c.in-Err.ensures.free; port = i.port; outcome = flush_refused_said _ _ c.in-Err.refusal _ _ c.in_default.not-Busy (flush_turn_more _ _ _ _ _ _ i.waits t); known = known-flush Flushed c.in-Err.refusal t.asks.0; work = flush-turn-work _ _ _ _ _ _ _ _ _ _ i.work t }

@@ -1,8 +1,8 @@
 -- Each flush is one page more.
-use Rattle.std.proofs.Common.{refl, ◌∙◌, ap, arith, inl, inr}
+use Rattle.std.proofs.Common.{refl, ◌∙◌, ap, Err, arith, inl, inr}
 use Rattle.bp_shared.specs.FlushAll.FlushesEach.{none, page}
 use Rattle.bp_shared.proofs.Freeing.{all_more}
-use Rattle.bp_shared.proofs.Working.{none-yet, work-on, why-of}
+use Rattle.bp_shared.proofs.Working.{none-yet, work-on}
 use Rattle.bp_shared.proofs.pool.SharedPool.flush_all.Goals as goal
 
 pub loop-page-init : goal.loop-page-init
@@ -22,11 +22,12 @@ loop-page-preserved g c =
       free = inr (all_more _ _ _ (inr (all_more _ _ _ i.free (c.in-Some.ensures.sees.free, ap (λ s. s.free) s))) f.free);
       port = f.port ∙ i.port;
       flushed = rw c.number-from.ensures (page c.in-Some.page c.in-Ok.field-0 _ i.flushed (record { sees = c.in-Some.ensures.sees; found = c.in-Some.ensures.found }) (record { client = f.client; seen = f.seen; said = f.outcome }));
-      work = work-on _ _ _ _ _ _ _ _ i.work (rw (ap (λ s. s.said) s) at (f.work (λ unknown. absurd (let no = unknown in cc))));
+      work = work-on _ _ _ _ _ _ _ _ i.work (rw (ap (λ s. s.said) s) at f.work);
     }
 
 pub returns-in-Err-clause-work : goal.returns-in-Err-clause-work
-returns-in-Err-clause-work g c = λ known.
-    let i = c.loop-page.invariant in
-    let f = c.in-Err.ensures in
-    work-on _ _ _ _ _ _ _ _ i.work (rw (ap (λ s. s.said) c.in-Some.ensures.sees.same) at (f.work (λ unknown. known _ refl (ap why-of unknown))))
+returns-in-Err-clause-work g c =
+    work-on _ _ _ _ _ _ _ _ c.loop-page.invariant.work (rw (ap (λ s. s.said) c.in-Some.ensures.sees.same) at c.in-Err.ensures.work)
+
+pub returns-in-Err-clause-known : goal.returns-in-Err-clause-known
+returns-in-Err-clause-known g c = λ unknown. c.in-Err.ensures.known (ap Err unknown)

@@ -1,7 +1,8 @@
 -- Where memory is refused, nothing is asked.
-use Rattle.std.proofs.Common.{refl, sym, ap, subst, ◌∙◌, Err, IfOk, ◌≡◌, length}
+use Rattle.std.proofs.Common.{refl, sym, ap, subst, ◌∙◌, Err, IfOk, ◌≡◌, length, inr}
 use Rattle.std.proofs.lemmas.Result.{err_from_is_err_and}
 use Rattle.bp_session_log.specs.Turns.{ReadSaid}
+use Rattle.bp_core.specs.Outcomes.{pass_is_out}
 use Rattle.bp_shared.specs.Sessions.{SessionValue}
 use Rattle.bp_shared.proofs.Freeing.{freed, unasked}
 use Rattle.bp_shared.proofs.Working.{why-of}
@@ -20,6 +21,7 @@ returns-in_err-reserve_for_event g c =
       free = unasked _ _ why;
       size = subst (λ r. IfOk r (λ image. length image ≡ g.N.PoolName.parameters.size)) (sym why) tt;
       stranger = λ not. absurd (not own);
+      unknown = λ is. absurd (let no = sym why ∙ is in cc);
       outcome = subst (λ r. ReadSaid c.session.inside.book.client c.args.pass.now r c.session.inside.book.said c.reserve_for_event.new.self.said) (sym why) (own, refused.same.said);
     })
 
@@ -38,5 +40,6 @@ returns g c =
       free = freed _ _ _ (entered.free, done.free ∙ ap (λ (s : SessionValue). s.free) entered.session);
       size = done.size;
       stranger = λ not. absurd (not own);
+      unknown = λ is. inr (sym (ap (pass_is_out c.args.pass.now) said) ∙ done.unknown is);
       outcome = rw (client, said) at done.outcome;
     })

@@ -1,8 +1,9 @@
 -- Where memory is refused, nothing is asked.
-use Rattle.std.proofs.Common.{refl, sym, ap, subst, ◌∙◌, Err}
+use Rattle.std.proofs.Common.{refl, sym, ap, subst, ◌∙◌, Err, inr}
 use Rattle.std.proofs.lemmas.Bool.{false≢true}
 use Rattle.std.proofs.lemmas.Result.{err_from_is_err_and}
 use Rattle.bp_session_log.specs.Turns.{ReadIntoSaid}
+use Rattle.bp_core.specs.Outcomes.{pass_is_out}
 use Rattle.bp_shared.specs.Sessions.{SessionValue}
 use Rattle.bp_shared.proofs.Freeing.{freed, unasked}
 use Rattle.bp_shared.proofs.Working.{why-of}
@@ -20,6 +21,7 @@ returns-in_err-reserve_for_event g c =
       seen = refl;
       free = unasked _ _ why;
       stranger = λ not. absurd (not own);
+      unknown = λ is. absurd (let no = sym why ∙ is in cc);
       outcome = subst (λ r. ReadIntoSaid c.session.inside.book.client c.args.pass.now c.args.offset c.args.into.now r c.args.into.now c.session.inside.book.said c.reserve_for_event.new.self.said) (sym why) ((own, refused.same.said), refl);
       memory = λ silent roomy. absurd (false≢true (refused.memory silent roomy));
     })
@@ -38,6 +40,7 @@ returns g c =
       seen = done.seen ∙ ap (λ (s : SessionValue). s.seen) entered.session;
       free = freed _ _ _ (entered.free, done.free ∙ ap (λ (s : SessionValue). s.free) entered.session);
       stranger = λ not. absurd (not own);
+      unknown = λ is. inr (sym (ap (pass_is_out c.args.pass.now) said) ∙ done.unknown is);
       outcome = rw (client, said) at done.outcome;
       memory = λ silent roomy. done.memory silent;
     })

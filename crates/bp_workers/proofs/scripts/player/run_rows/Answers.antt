@@ -12,7 +12,7 @@ use Rattle.bp_workers.specs.Steps.{is_fault}
 use Rattle.bp_workers.specs.Players.{PlaysRows}
 use Rattle.bp_workers.specs.Scripts.{IsRowOf}
 use Rattle.bp_workers.proofs.Following.{follows-more, known-more}
-use Rattle.bp_workers.proofs.Playing.{known_step, step-work}
+use Rattle.bp_workers.proofs.Playing.{step-work}
 use Rattle.bp_workers.proofs.scripts.player.run_rows.Goals as goal
 
 pub loop-row-preserved : goal.loop-row-preserved
@@ -34,7 +34,7 @@ loop-row-preserved g c =
             (c.push_reserved.ensures.items ∙ ap (λ n. c.loop-row.ends.items ++ n ∷ []) c.count.ensures));
         known = known-more row.row c.loop-row.refused.items c.note_refused.new.refused.items (outcome_of c.step-outcome.result) i.plays.known none c.note_refused.ensures.refused;
         work = work-on _ _ _ _ _ _ _ _ i.plays.work
-            (step-work _ _ c.loop-row.client.session.client row.step (outcome_of c.step-outcome.result) _ _ _ _ c.step-outcome.ensures.outcome none (c.step-outcome.ensures.work (known_step c.step-outcome.result none)));
+            (step-work _ _ c.loop-row.client.session.client row.step (outcome_of c.step-outcome.result) _ _ _ _ c.step-outcome.ensures.outcome none c.step-outcome.ensures.work);
       };
       held = c.step-outcome.ensures.held;
       few_ends = omega (arith, c.push_reserved.ensures.len, i.few_ends);

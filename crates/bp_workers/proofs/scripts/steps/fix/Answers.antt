@@ -6,7 +6,7 @@ use Rattle.bp_trail.specs.Event.{Grant}
 use Rattle.bp_trail.specs.Pieces.Outcome.{refused}
 use Rattle.bp_trail.specs.Pieces.FixPiece.{no_memory}
 use Rattle.bp_trail.specs.Pieces.FixGoesOn.{begins}
-use Rattle.bp_shared.proofs.Working.{none-yet, why-of}
+use Rattle.bp_shared.proofs.Working.{none-yet}
 use Rattle.bp_workers.proofs.Holding.{fix-holds, refused_fix-holds}
 use Rattle.bp_workers.proofs.Stepping.{fix_said, fix_refused, none_said}
 use Rattle.bp_workers.proofs.scripts.steps.fix.Goals as goal
@@ -16,7 +16,7 @@ returns-in_err-reserve g c =
     let is = err_from_is_err_and c.from_residual.result c.from_residual.ensures.1 in
     rw (is.1 ∙ ap Err is.2) (record {
       same = (refl, refl);
-      work = λ known. none-yet _ _ _ _;
+      work = none-yet _ _ _ _;
       outcome = none_said c.args.client.now.session.client (step.Fix c.args.page) (refused 22) c.args.client.now.session.said c.args.client.now.session.said (no_memory begins) refl;
       held = c.reserve.ensures.passes ∙ c.requires.held;
     })
@@ -27,7 +27,7 @@ returns-in_err-pass g c =
     let is = err_from_is_err_and c.from_residual-in_err-pass.result c.from_residual-in_err-pass.ensures.1 in
     rw (is.1 ∙ ap Err is.2) (record {
       same = (c.fix.ensures.client, c.fix.ensures.before);
-      work = λ known. gone.work (λ unknown. known (ap Err (ap why-of unknown)));
+      work = gone.work;
       outcome = fix_refused c.args.client.now.session.client c.args.page c.in_err-pass.field-0.0 c.args.client.now.session.said c.fix.new.session.said gone.outcome;
       held = c.reserve.ensures.passes ∙ c.requires.held ∙ sym (refused_fix-holds c.args.client.now.session.client c.args.page c.in_err-pass.field-0.0 c.args.client.now.session.said c.fix.new.session.said gone.outcome);
     })
@@ -37,7 +37,7 @@ returns g c =
     let done = c.in_ok-pass.ensures in
     record {
       same = (c.fix.ensures.client, c.fix.ensures.before);
-      work = λ known. done.work (λ unknown. absurd (let no = unknown in cc));
+      work = done.work;
       outcome = fix_said c.args.client.now.session.client c.args.page c.in_ok-pass.pass c.args.client.now.session.said c.fix.new.session.said done.outcome;
       held = fix-holds c.args.client.now.session.client c.args.page c.in_ok-pass.pass c.args.client.now.session.said c.fix.new.session.said c.reserve.new.self.passes c.push.new.self.passes done.outcome (c.reserve.ensures.passes ∙ c.requires.held)
           (c.push.ensures.passes ∙ ap (λ (note : Grant). c.reserve.new.self.passes ++ note ∷ []) c.note.ensures);
