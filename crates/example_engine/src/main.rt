@@ -71,12 +71,15 @@ impl Adding {
         let (mut log, mut counter) = (self.log.lock(rt), [0; 8]);
         let read = pool.read_into(rt, &mut own.session, &pass, 0, &mut counter);
         let value = u64::from_le_bytes(counter).wrapping_add(1);
-        let appended = read.and_then(|()| log.append(page));
-        let written = match appended {
-            Ok(lsn) => pool.write_from(rt, &mut own.session, &pass, 0, &value.to_le_bytes(), lsn),
+        let written = match read.and_then(|()| log.append(page)) {
+            Ok(lsn) => {
+                let bytes = value.to_le_bytes();
+                let written = pool.write_from(rt, &mut own.session, &pass, 0, &bytes, lsn);
+                log.ended = written.is_err();
+                written
+            }
             Err(refusal) => Err(refusal),
         };
-        log.ended = log.ended || (appended.is_ok() && written.is_err());
         // A pass can't be dropped: one that does not go back is spent as a note.
         let back = pool.unfix_draining(rt, &mut own.session, pass);
         let _ = back.map_err(|(pass, _)| pass.note());
