@@ -2,7 +2,7 @@
 use super::SharedConfig;
 use super::guards::{PageMut, PagePin, PageRef};
 use super::log::Log;
-use super::part::{Fix, Locked, Part, turn_of};
+use super::part::{Fix, Locked, Part, Unlogged, turn_of};
 use super::pins::{Joined, PASSES};
 use super::seats::list_of;
 use super::upkeep::Syncs;
@@ -396,9 +396,10 @@ impl<F: PageIo> SharedPager<F> {
                     part.lock()
                 }
                 Err(Error::NeedLog { lsn }) => {
-                    drop(state);
-                    let reached = self.reach_log(part, lsn);
-                    reached.inspect_err(|_| part.pass_over(lsn))?
+                    let unlogged = Unlogged::new(part, state);
+                    let locked = self.reach_log(part, lsn)?;
+                    unlogged.is_logged();
+                    locked
                 }
                 Err(Error::Busy) => part.wait_for_work(state, own)?,
                 Err(Error::NoVictim) => patience.make_way(state)?,

@@ -427,17 +427,12 @@ impl Part {
         matches!(pool.fix(0, page, scratch), Ok(Fixed::Hit(_)))
     }
 
-    /// Has the next call choose another victim than one whose log record, with this LSN, could not be
-    /// made durable. A record may be of several pages, and the pool does not tell which of them is
-    /// the victim: so each of them counts as used now.
-    pub(super) fn pass_over(&self, lsn: u64) {
+    /// Has the next call choose another victim than this one, whose log record could not be made
+    /// durable: if it still is the victim, it counts as used now.
+    fn pass_over(&self, victim: u64) {
         let mut state = self.lock();
-        let mut from = 0;
-        while let Some(found) = state.pool.next_unsaved(from) {
-            if found.lsn == lsn {
-                self.refer_to(&mut state, found.page);
-            }
-            from = found.page + 1;
+        if state.pool.victim() == Some(victim) {
+            self.refer_to(&mut state, victim);
         }
     }
 
@@ -484,6 +479,34 @@ impl Part {
     fn go_out(&self, state: &mut State, page: u64) {
         if let Some(seat) = self.seats.of(page) {
             state.firsts.go_out(seat);
+        }
+    }
+}
+
+/// A victim whose log record is made durable. If this is dropped before that, the victim is passed
+/// over.
+pub(super) struct Unlogged<'a> {
+    part: &'a Part,
+    victim: Option<u64>,
+}
+
+impl<'a> Unlogged<'a> {
+    /// Notes the page that the pool refused to write out. The part's lock is opened.
+    pub(super) fn new(part: &'a Part, state: Locked<'_>) -> Unlogged<'a> {
+        let victim = state.pool.victim();
+        Unlogged { part, victim }
+    }
+
+    /// Notes that its record is durable.
+    pub(super) fn is_logged(mut self) {
+        self.victim = None;
+    }
+}
+
+impl Drop for Unlogged<'_> {
+    fn drop(&mut self) {
+        if let Some(victim) = self.victim {
+            self.part.pass_over(victim);
         }
     }
 }

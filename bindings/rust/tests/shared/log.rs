@@ -1,6 +1,7 @@
 //! Beside a log that is slow or fails: which latches are held meanwhile, and which calls fail.
 use crate::device::{Asked, Device, Fate, Gate, Watch, config, fault, pager, put};
 use hojzmated::{PagerError, SharedConfig, SharedPager};
+use std::panic::{AssertUnwindSafe, catch_unwind, resume_unwind};
 use std::sync::Arc;
 use std::sync::atomic::{AtomicUsize, Ordering};
 use std::thread;
@@ -139,6 +140,41 @@ fn record_of_two_pages() {
             assert!((1..4).contains(&failing), "{failing} of 11: {lsns:?}");
         }
     }
+}
+
+// Its record is of page 1 too, which is no older or newer for that: it is next to make way.
+#[test]
+fn victim_alone_is_passed_over() {
+    let pager = pager(4);
+    pager.io().ends_as(|asked| match asked {
+        Asked::Log(_) => Err(fault()),
+        _ => Ok(()),
+    });
+    put(&pager, 9, 1, 7);
+    put(&pager, 1, 1, 7);
+    look(&pager, &[2, 3]);
+    assert!(pager.read(4).is_err());
+    pager.mark(7);
+    look(&pager, &[5]);
+    let resident = [9, 1, 2, 3, 5].map(|page| pager.is_resident(page));
+    assert_eq!(resident, [true, false, true, true, true]);
+}
+
+// The same where the log panics.
+#[test]
+fn victim_whose_log_panics() {
+    let pager = pager(4);
+    pager.io().ends_as(|asked| match asked {
+        Asked::Log(_) => resume_unwind(Box::new("no such luck")),
+        _ => Ok(()),
+    });
+    put(&pager, 9, 1, 7);
+    look(&pager, &[1, 2, 3]);
+    let read = |page| catch_unwind(AssertUnwindSafe(|| pager.read(page).map(drop).unwrap()));
+    let others = (4..9).chain(10..16);
+    let failing = others.filter(|page| read(*page).is_err()).count();
+    assert!((1..4).contains(&failing), "{failing} of 11");
+    assert_eq!((pager.stats().unsaved, pager.stats().pinned), (1, 0));
 }
 
 // The same while another call has the buffer that is kept: page 8 is being written out.
