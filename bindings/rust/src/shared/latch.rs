@@ -1,18 +1,29 @@
 //! The threads that wait for latches of a part's pages, and who of them is next.
 use super::seats::{Seat, filled};
 use super::word::WRITER;
+use std::mem;
 use std::sync::{Condvar, Mutex, MutexGuard, PoisonError};
+use std::time::{Duration, Instant};
 
 /// The number of places at which threads sleep. Threads that wait for different turns may share
 /// one, and then are woken in vain.
 const PLACES: usize = 32;
 
-/// The queues for the latches of a part's pages. A latch is handed over: who lets it go gives it to
-/// those who are next, and wakes them and no others.
+/// So long a writer has been next, while no reader waits, before the latch is handed over to it.
+const PATIENCE: Duration = Duration::from_micros(500);
+
+/// The queues for the latches of a part's pages. Who lets a latch go calls those who are next, and no
+/// others.
 ///
-/// Writers get it in the order in which they came. Readers get it after the writer that had it when
-/// they came, or after the next one, and all that wait get it together. So a reader waits for one
-/// writer, or two at most, and a writer for those before it and the readers between.
+/// Where readers wait the latch is handed over, so that nobody takes it before those who are next.
+/// Readers get it after the writer that had it when they came, or after the next one, and all that
+/// wait get it together. So a reader waits for one writer, or two at most, and a writer for those
+/// before it and the readers between.
+///
+/// Where writers alone wait, the first of them is woken, and until it runs others may take the latch:
+/// else each turn would take as long as it takes to wake a thread. If it has been the first for some
+/// time the latch is handed over to it. So of those who come later none waits behind it and gets in
+/// before it, and a writer waits for that time for each that is before it.
 pub(super) struct Queues {
     state: Mutex<State>,
     places: [Condvar; PLACES],
@@ -30,6 +41,10 @@ struct Queue {
     /// How many writers came to wait so far, and how many of them got the latch.
     writers: u64,
     let_in: u64,
+    /// Since when the first writer that waits has been the first.
+    since: Option<Instant>,
+    /// The first writer was woken, and has not looked at the latch since.
+    is_awake: bool,
     /// The readers that are next, before any writer, and those that are next after a writer.
     first: u64,
     second: u64,
@@ -44,6 +59,33 @@ impl Queue {
 
     fn is_empty(&self) -> bool {
         !self.has_writers() && self.first + self.second == 0
+    }
+
+    /// Adds a writer, and returns its ticket.
+    fn add_writer(&mut self) -> u64 {
+        if !self.has_writers() {
+            self.since = Some(Instant::now());
+        }
+        self.writers += 1;
+        self.writers - 1
+    }
+
+    /// Whether the first writer has been the first for long enough.
+    fn is_due(&self) -> bool {
+        self.since.is_none_or(|since| since.elapsed() >= PATIENCE)
+    }
+
+    /// Gives the latch to the first writer, if nobody has it.
+    fn let_writer_in(&mut self, seat: &Seat) -> bool {
+        let is_last = self.writers == self.let_in + 1 && self.second == 0;
+        if !seat.let_writer_in(is_last) {
+            return false;
+        }
+        (self.first, self.second) = (self.second, 0);
+        self.let_in += 1;
+        self.is_awake = false;
+        self.since = self.has_writers().then(Instant::now);
+        true
     }
 }
 
@@ -80,28 +122,47 @@ impl Queues {
             return;
         };
         state.waits += 1;
-        let queue = &mut state.of_seats[number];
         if latch == WRITER {
-            let ticket = queue.writers;
-            queue.writers += 1;
-            while state.of_seats[number].let_in <= ticket {
-                state = wait_at(self.writer_place(number, ticket), state);
-            }
+            self.wait_to_write(state, seat, number);
         } else {
-            if before.is_written() {
-                queue.first += 1;
-            } else {
-                queue.second += 1;
+            self.wait_to_read(state, number, before.is_written());
+        }
+    }
+
+    fn wait_to_write(&self, mut state: MutexGuard<'_, State>, seat: &Seat, number: usize) {
+        let ticket = state.of_seats[number].add_writer();
+        let place = self.writer_place(number, ticket);
+        loop {
+            state = place.wait(state).unwrap_or_else(PoisonError::into_inner);
+            let queue = &mut state.of_seats[number];
+            if queue.let_in > ticket {
+                return;
             }
-            let turn = queue.turns;
-            while state.of_seats[number].turns == turn {
-                state = wait_at(self.reader_place(number, turn), state);
+            // Only the first is awake. Where readers are before it, the latch is handed over.
+            if queue.let_in == ticket && mem::take(&mut queue.is_awake) {
+                if queue.first == 0 && queue.let_writer_in(seat) {
+                    return;
+                }
             }
         }
     }
 
-    /// Hands the latch of a page to who is next, if it is free for that. Who lets a latch go in whose
-    /// queue threads wait calls it: so one call always comes after the latch is free.
+    fn wait_to_read(&self, mut state: MutexGuard<'_, State>, number: usize, is_written: bool) {
+        let queue = &mut state.of_seats[number];
+        if is_written {
+            queue.first += 1;
+        } else {
+            queue.second += 1;
+        }
+        let turn = queue.turns;
+        let place = self.reader_place(number, turn);
+        while state.of_seats[number].turns == turn {
+            state = place.wait(state).unwrap_or_else(PoisonError::into_inner);
+        }
+    }
+
+    /// Hands the latch of a page to who is next, or wakes a writer that may take it. Who lets a latch
+    /// go in whose queue threads wait calls it: so one call always comes after the latch is free.
     #[cold]
     pub(super) fn hand_over(&self, seat: &Seat, number: usize) {
         let mut state = self.lock();
@@ -117,20 +178,20 @@ impl Queues {
             (queue.first, queue.second) = (0, 0);
             queue.turns += 1;
             self.reader_place(number, queue.turns - 1)
-        } else {
-            let is_last = queue.writers == queue.let_in + 1 && queue.second == 0;
-            if !seat.let_writer_in(is_last) {
+        } else if queue.second > 0 || queue.is_due() {
+            if !queue.let_writer_in(seat) {
                 return;
             }
-            (queue.first, queue.second) = (queue.second, 0);
-            queue.let_in += 1;
             self.writer_place(number, queue.let_in - 1)
+        } else {
+            // Until it has looked others may take the latch.
+            seat.open();
+            if mem::replace(&mut queue.is_awake, true) {
+                return;
+            }
+            self.writer_place(number, queue.let_in)
         };
         drop(state);
         place.notify_all();
     }
-}
-
-fn wait_at<'a>(place: &Condvar, state: MutexGuard<'a, State>) -> MutexGuard<'a, State> {
-    place.wait(state).unwrap_or_else(PoisonError::into_inner)
 }

@@ -77,10 +77,12 @@ use std::time::{Duration, Instant};
 /// record is not durable, one thread makes the log durable for all. Where all possible victims are
 /// pinned, a call waits for [`SharedConfig::pin_wait`].
 ///
-/// Latches are fair by phase. Writers get a page's latch in the order in which they came. Who waits
-/// to read gets it after the writer that has it, or the one that is next, with all others that wait
-/// to read. [`flush`](SharedPager::flush) waits as one who reads. So nobody waits without end while
-/// others let their latches go, and a checkpoint ends beside any number of readers and writers.
+/// Latches are fair by phase. Who waits to read gets a page's latch after the writer that has it, or
+/// the one that is next, with all others that wait to read. [`flush`](SharedPager::flush) waits as one
+/// who reads. Writers that wait get it in the order in which they came. A writer that comes later may
+/// be before them, but no longer than half a millisecond before the one that is next. So nobody waits
+/// without end while others let their latches go, and a checkpoint ends beside any number of readers
+/// and writers.
 ///
 /// Threads that hold a latch and want another could wait for each other for ever. So an engine takes
 /// latches in one order, such as from the root of a tree down and from left to right. Against that

@@ -12,17 +12,20 @@
 //!   any word may have shares for a moment that are no guards, and no rule here relies on their
 //!   absence.
 //! - **Latches.** A READER is added blindly (Acquire). It is a latch if OUT was there, and neither
-//!   WRITER nor QUEUED; else it is turned into a PIN, or taken back. A WRITER is added by a
-//!   compare-and-swap (Acquire) that finds OUT and no READER, WRITER or QUEUED.
+//!   WRITER nor CLOSED; else it is turned into a PIN, or taken back. A WRITER is added by a
+//!   compare-and-swap (Acquire) that finds OUT and no READER, WRITER or CLOSED.
 //! - **Letting go** takes the share from the word (SeqCst, so a Release): all use of the page is before
 //!   the next latch, and before OUT goes (SeqCst, so an Acquire).
 //! - **Bytes** of a page change by [`Part::write`], under a WRITER and the part's lock. They are looked
 //!   at under a READER or by the WRITER, or are copied under the lock where there is no WRITER: one
 //!   that comes then writes nothing before the lock is open.
-//! - **QUEUED** changes under the mutex of [`Queues`] alone: it is set where the latch is not free, and
-//!   goes as the last thread of the queue is let in. While it is there nobody takes the latch. Who
-//!   leaves a word that has it, and no READER or WRITER any more, calls [`Queues::hand_over`], which
-//!   adds the shares of those who are next (AcqRel). They see that by the mutex.
+//! - **QUEUED and CLOSED** change under the mutex of [`Queues`] alone. They are set where the latch is
+//!   not free, and go as the last thread of the queue is let in. While CLOSED is there who comes does
+//!   not get the latch. Who leaves a word that has QUEUED, and no READER or WRITER any more, calls
+//!   [`Queues::hand_over`], which adds the shares of those who are next (AcqRel). They see that by the
+//!   mutex. Or it wakes the first writer, and CLOSED goes: that writer takes the latch itself (AcqRel),
+//!   or sets CLOSED as it finds the latch taken, in one change. So while threads wait QUEUED is there,
+//!   and who has the latch or leaves it calls them, or the first is awake and looks.
 //! - **Who waits for a frame** adds to the part's `waiting` (SeqCst), looks at the words (SeqCst), and
 //!   sleeps, all under the part's lock. Who lets go looks at `waiting` (SeqCst) after it took its share
 //!   back (SeqCst), and takes the lock before it wakes: so one of both sees the other.
@@ -78,7 +81,7 @@ impl Seat {
         Word(self.word.fetch_add(share + JOIN, Ordering::Acquire))
     }
 
-    /// Takes the exclusive latch with a join, if the pass is out and nobody has a latch.
+    /// Takes the exclusive latch with a join, if the pass is out and nobody has a latch or is to get it.
     #[inline]
     pub(super) fn join_alone(&self) -> Option<Word> {
         let word = Word(self.word.load(Ordering::Relaxed));
@@ -111,7 +114,7 @@ impl Seat {
         Word(self.word.fetch_add(PIN, Ordering::Acquire))
     }
 
-    /// Takes a latch in place of another share, if that is free and nobody waits for it.
+    /// Takes a latch in place of another share, if that is free and nobody is to get it.
     #[inline]
     pub(super) fn try_latch(&self, latch: u64, in_place_of: u64) -> bool {
         let latched = |word| Word(word).with_latch(latch, in_place_of);
@@ -147,10 +150,17 @@ impl Seat {
         self.change(Ordering::AcqRel, let_in).is_ok()
     }
 
-    /// Adds the latch of a writer that waited, if nobody has one. The queues are locked.
+    /// Adds the latch of a writer that waited, if nobody has one. Else it notes that threads wait. The
+    /// queues are locked.
     pub(super) fn let_writer_in(&self, is_queue_empty: bool) -> bool {
-        let let_in = |word| Word(word).with_writer(is_queue_empty);
-        self.change(Ordering::AcqRel, let_in).is_ok()
+        let let_in = |word| Some(Word(word).with_writer(is_queue_empty));
+        let before = self.change(Ordering::AcqRel, let_in);
+        before.is_ok_and(|it| !it.is_latched())
+    }
+
+    /// Lets whoever comes take the latch: a writer that waits is awake. The queues are locked.
+    pub(super) fn open(&self) {
+        let _ = self.change(Ordering::Relaxed, |word| Some(Word(word).opened()));
     }
 
     /// Changes the word, if it is to be changed, and returns what was there.

@@ -6,15 +6,17 @@ pub(super) const READER: u64 = 1;
 pub(super) const PIN: u64 = 1 << 20;
 /// The exclusive latch, which is a pin too.
 pub(super) const WRITER: u64 = 1 << 40;
-/// Threads wait for the latch, in a queue: who comes now waits behind them.
+/// Threads wait for the latch, in a queue: who lets it go calls them.
 const QUEUED: u64 = 1 << 41;
 /// The pass is out.
 const OUT: u64 = 1 << 42;
 /// The pass stays out when nobody uses the page.
 const STAYS: u64 = 1 << 43;
+/// Who comes now does not get the latch before those that wait.
+const CLOSED: u64 = 1 << 44;
 /// A pin that was made without the lock, of those that the part has not counted so far. The highest
 /// bits: what does not fit is lost.
-pub(super) const JOIN: u64 = 1 << 44;
+pub(super) const JOIN: u64 = 1 << 45;
 /// After so many of them, a power of two, one is a reference.
 const JOINS: u64 = 32;
 
@@ -23,6 +25,7 @@ const DUE: u64 = !(JOINS * JOIN - 1);
 const READERS: u64 = PIN - READER;
 const PINS: u64 = WRITER - PIN;
 const JOINED: u64 = !(JOIN - 1);
+const WAITED: u64 = QUEUED | CLOSED;
 const LATCHED: u64 = READERS | WRITER;
 const USERS: u64 = READERS | PINS | WRITER;
 /// More guards than this of a page are too many, though as many again fit in the word: so many
@@ -43,6 +46,11 @@ impl Word {
     /// A thread has the exclusive latch.
     pub(super) fn is_written(self) -> bool {
         self.0 & WRITER != 0
+    }
+
+    /// A thread has a latch of the page.
+    pub(super) fn is_latched(self) -> bool {
+        self.0 & LATCHED != 0
     }
 
     #[inline]
@@ -70,23 +78,23 @@ impl Word {
     }
 
     /// Whether a shared latch that was added to this is one: the pass is out, nobody has the
-    /// exclusive latch or waits for a latch, and there is room.
+    /// exclusive latch or is to get a latch, and there is room.
     #[inline]
     pub(super) fn is_readable(self) -> bool {
-        self.0 & (OUT | WRITER | QUEUED | TOO_MANY) == OUT
+        self.0 & (OUT | WRITER | CLOSED | TOO_MANY) == OUT
     }
 
     /// The same, and it is not time for a reference.
     #[inline]
     pub(super) fn is_readable_at_once(self) -> bool {
-        self.0 & (OUT | WRITER | QUEUED | TOO_MANY | DUE) == OUT
+        self.0 & (OUT | WRITER | CLOSED | TOO_MANY | DUE) == OUT
     }
 
-    /// Whether the exclusive latch may be added: the pass is out, and nobody has a latch or waits
-    /// for one.
+    /// Whether the exclusive latch may be added: the pass is out, and nobody has a latch or is to get
+    /// one.
     #[inline]
     pub(super) fn is_writable(self) -> bool {
-        self.0 & (OUT | LATCHED | QUEUED) == OUT
+        self.0 & (OUT | LATCHED | CLOSED) == OUT
     }
 
     #[inline]
@@ -110,30 +118,38 @@ impl Word {
         self.0 / JOIN
     }
 
-    /// With a latch in place of a share, if the latch is free and nobody waits for it.
+    /// With a latch in place of a share, if the latch is free and nobody is to get it.
     #[inline]
     pub(super) fn with_latch(self, latch: u64, in_place_of: u64) -> Option<u64> {
         let in_the_way = if latch == READER { WRITER } else { LATCHED };
-        let is_free = self.0 & (in_the_way | QUEUED) == 0 && self.has_room();
+        let is_free = self.0 & (in_the_way | CLOSED) == 0 && self.has_room();
         is_free.then(|| self.0 - in_place_of + latch)
     }
 
     /// With a thread in the queue for the latch, if that is not free or others wait.
     pub(super) fn with_queue(self, latch: u64) -> Option<u64> {
         let is_free = self.with_latch(latch, 0).is_some();
-        (self.has_room() && !is_free).then_some(self.0 | QUEUED)
+        (self.has_room() && !is_free).then_some(self.0 | WAITED)
     }
 
     /// With so many readers of the queue let in, if no writer is there.
     pub(super) fn with_readers(self, readers: u64, is_queue_empty: bool) -> Option<u64> {
-        let queue = if is_queue_empty { QUEUED } else { 0 };
-        (!self.is_written()).then_some((self.0 & !queue) + readers * READER)
+        let waited = if is_queue_empty { 0 } else { WAITED };
+        (!self.is_written()).then_some((self.0 & !WAITED) + waited + readers * READER)
     }
 
-    /// With a writer of the queue let in, if nobody has the latch.
-    pub(super) fn with_writer(self, is_queue_empty: bool) -> Option<u64> {
-        let queue = if is_queue_empty { QUEUED } else { 0 };
-        (self.0 & LATCHED == 0).then_some((self.0 & !queue) + WRITER)
+    /// With a writer of the queue let in if nobody has the latch, else closed.
+    pub(super) fn with_writer(self, is_queue_empty: bool) -> u64 {
+        if self.is_latched() {
+            return self.0 | WAITED;
+        }
+        let waited = if is_queue_empty { 0 } else { WAITED };
+        (self.0 & !WAITED) + waited + WRITER
+    }
+
+    /// Open for who comes.
+    pub(super) fn opened(self) -> u64 {
+        self.0 & !CLOSED
     }
 
     /// With the pass out, and a pin.

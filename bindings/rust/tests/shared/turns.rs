@@ -114,6 +114,31 @@ fn order_of_readers_and_writers() {
     }
 }
 
+// Where a writer alone waits, the latch is not kept for it while it is woken: a thread that has let it
+// go may take it again. Else each turn at a page that many write took as long as that.
+#[test]
+fn latch_while_a_writer_is_woken() {
+    let _watch = Watch::over("latch_while_a_writer_is_woken", 120);
+    let (pager, mut waits) = (pager(2), 0);
+    let mut is_free = false;
+    while !is_free {
+        let first = pager.write(3).unwrap();
+        thread::scope(|threads| {
+            let second = threads.spawn(|| put(&pager, 3, 7, 0));
+            waits += 1;
+            wait_for(&pager, waits);
+            drop(first);
+            let again = pager.try_write(3).unwrap();
+            // And not since the other has written already.
+            is_free = again.is_some_and(|page| page.bytes()[0] == 0);
+            second.join().unwrap();
+        });
+        put(&pager, 3, 0, 0);
+        waits = pager.stats().waits;
+    }
+    assert_eq!(pager.stats().pinned, 0);
+}
+
 // A flush waits for the writer of its page, as a reader does: its image has nothing of a second writer
 // that came earlier.
 #[test]
