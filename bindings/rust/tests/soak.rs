@@ -67,6 +67,7 @@ fn soak_of_64_threads() {
         parts: 4,
         seed,
         faults_in: 300,
+        several_in: 0,
     });
     let cleaner = engine
         .pager

@@ -15,6 +15,9 @@ pub struct Settings {
     pub seed: u64,
     /// Of so many requests to the device three do not go well.
     pub faults_in: u64,
+    /// Of so many calls one wants several pages at a time, for which there may be no frames. None where
+    /// it is 0.
+    pub several_in: u64,
 }
 
 pub struct Engine {
@@ -27,6 +30,7 @@ pub struct Engine {
     /// A thread has it shared from a log record to the end of its write.
     records: RwLock<()>,
     checkpoints: Mutex<()>,
+    several_in: u64,
     /// Calls that did not go well, and panics.
     pub faults: AtomicU64,
     pub kept: AtomicU64,
@@ -65,7 +69,7 @@ impl Engine {
             parts: settings.parts,
             correlated: settings.seed % 3 * settings.frames as u64 / 2,
             retained: 1_000,
-            pin_wait: Duration::from_secs(60),
+            pin_wait: Duration::from_millis(if settings.several_in > 0 { 300 } else { 60_000 }),
             ..SharedConfig::new(settings.pages, SIZE, settings.frames)
         };
         let device = Device::new(settings.pages, settings.seed, settings.faults_in);
@@ -76,6 +80,7 @@ impl Engine {
             making: Mutex::default(),
             records: RwLock::default(),
             checkpoints: Mutex::default(),
+            several_in: settings.several_in,
             faults: AtomicU64::default(),
             kept: AtomicU64::default(),
         }
@@ -86,7 +91,7 @@ impl Engine {
         while goes_on() {
             match catch_unwind(AssertUnwindSafe(|| self.act(numbers))) {
                 Ok(Ok(())) => continue,
-                Ok(Err(error)) => assert!(is_of_device(&error), "{error}: {error:?}"),
+                Ok(Err(error)) => assert!(self.may_be(&error), "{error}: {error:?}"),
                 Err(payload) if payload.is::<Broken>() => {}
                 Err(payload) => resume_unwind(payload),
             }
@@ -94,19 +99,28 @@ impl Engine {
         }
     }
 
+    /// Whether a call may come to this.
+    fn may_be(&self, error: &PagerError) -> bool {
+        let is_full = matches!(error, PagerError::Refused(Error::NoVictim));
+        is_of_device(error) || (is_full && self.several_in > 0)
+    }
+
     fn act(&self, numbers: &mut Numbers) -> Result<(), PagerError> {
+        if self.several_in > 0 && numbers.below(self.several_in) == 0 {
+            return self.take_several(numbers);
+        }
         let pages = self.made.load(Ordering::Acquire);
         let page = numbers.below(pages);
         match numbers.below(200) {
             0..70 => self.look(page, &self.pager.read(page)?),
-            70..130 => self.change(self.pager.write(page)?),
+            70..130 => self.change(&mut [self.pager.write(page)?]),
             130..140 => {
                 let found = unless_pinned(self.pager.try_read(page))?;
                 found.iter().for_each(|bytes| self.look(page, bytes));
             }
             140..150 => {
                 let found = unless_pinned(self.pager.try_write(page))?;
-                found.into_iter().for_each(|it| self.change(it));
+                found.into_iter().for_each(|it| self.change(&mut [it]));
             }
             150..160 => self.use_pin(&self.pager.pin(page)?),
             160..170 => self.use_two(page, numbers.below(pages))?,
@@ -129,24 +143,30 @@ impl Engine {
         }
     }
 
-    /// Fills a page by two writes under one log record.
-    fn change(&self, mut page: PageMut<'_>) {
-        self.look(page.page(), page.bytes());
+    /// Fills pages, each by two writes, under one log record.
+    fn change(&self, pages: &mut [PageMut<'_>]) {
+        for page in pages.iter() {
+            self.look(page.page(), page.bytes());
+        }
         let record = self.records.read().unwrap();
         let lsn = self.pager.io().log_end.fetch_add(1, Ordering::AcqRel) + 1;
-        for half in HALVES {
-            let bytes = lsn.to_le_bytes().repeat(half.len() / 8);
-            page.put(half.start, &bytes, lsn).unwrap();
-            pause(lsn);
+        for page in pages.iter_mut() {
+            for half in HALVES {
+                let bytes = lsn.to_le_bytes().repeat(half.len() / 8);
+                page.put(half.start, &bytes, lsn).unwrap();
+                pause(lsn);
+            }
+            self.newest[page.page() as usize].store(lsn, Ordering::Release);
         }
-        self.newest[page.page() as usize].store(lsn, Ordering::Release);
         drop(record);
-        assert_eq!(number_in(page.bytes()), lsn);
+        for page in pages.iter() {
+            assert_eq!(number_in(page.bytes()), lsn);
+        }
     }
 
     fn use_pin(&self, pin: &PagePin<'_>) {
         self.look(pin.page(), &pin.read());
-        self.change(pin.write());
+        self.change(&mut [pin.write()]);
         assert!(self.pager.is_resident(pin.page()));
         self.look(pin.page(), &pin.read());
     }
@@ -156,9 +176,49 @@ impl Engine {
         let look = self.pager.read(page)?;
         if page != other {
             let found = unless_pinned(self.pager.try_write(other))?;
-            found.into_iter().for_each(|it| self.change(it));
+            found.into_iter().for_each(|it| self.change(&mut [it]));
         }
         self.look(page, &look);
+        Ok(())
+    }
+
+    /// Waits for the latches of several pages, the lesser first, of which a few are hot; commits; or has
+    /// another thread use a pin.
+    fn take_several(&self, numbers: &mut Numbers) -> Result<(), PagerError> {
+        let pages = self.made.load(Ordering::Acquire);
+        let mut pages = [0; 3].map(|_| {
+            let few = if numbers.below(3) == 0 { 4 } else { pages };
+            numbers.below(few.min(pages))
+        });
+        pages.sort_unstable();
+        let [first, second, third] = pages;
+        match numbers.below(8) {
+            0..4 if first < second => {
+                let one = self.pager.write(first)?;
+                self.change(&mut [one, self.pager.write(second)?]);
+            }
+            4 if first < second && second < third => {
+                let look = self.pager.read(first)?;
+                let pin = self.pager.pin(second)?;
+                self.change(&mut [self.pager.write(third)?]);
+                self.look(first, &look);
+                drop(look);
+                self.change(&mut [pin.write()]);
+            }
+            5 => {
+                let pin = self.pager.pin(first)?;
+                thread::scope(|threads| {
+                    threads.spawn(move || self.look(first, &pin.read()));
+                });
+            }
+            6 => {
+                let lsn = self.pager.io().end_of_log();
+                let synced = self.pager.io().sync_log();
+                self.pager
+                    .mark(synced.map_err(|source| PagerError::Log { lsn, source })?);
+            }
+            _ => {}
+        }
         Ok(())
     }
 
@@ -167,7 +227,7 @@ impl Engine {
         let _turn = self.making.lock().unwrap_or_else(PoisonError::into_inner);
         let page = self.made.load(Ordering::Acquire);
         if page < self.pager.config().pages {
-            self.change(self.pager.new_page(page)?);
+            self.change(&mut [self.pager.new_page(page)?]);
             self.made.store(page + 1, Ordering::Release);
         }
         Ok(())

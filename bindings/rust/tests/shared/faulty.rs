@@ -2,8 +2,8 @@
 use hojzmated::{PageIo, ReadFault};
 use std::ops::Range;
 use std::panic::resume_unwind;
-use std::sync::Mutex;
 use std::sync::atomic::{AtomicBool, AtomicU64, Ordering};
+use std::sync::{Mutex, PoisonError};
 use std::time::Duration;
 use std::{io, thread};
 
@@ -59,11 +59,16 @@ struct Place {
     kept: AtomicU64,
 }
 
+/// The longest times for a page and for the log, in microseconds.
+const OF_PAGE: u64 = 5;
+const OF_LOG: u64 = 400;
+
 pub struct Device {
     places: Vec<Place>,
     pub log_end: AtomicU64,
     durable: AtomicU64,
     is_at_log: AtomicBool,
+    log_turn: Mutex<()>,
     numbers: AtomicU64,
     /// Of so many requests one fails, one panics, and one finds another page. None where it is 0.
     pub faults_in: AtomicU64,
@@ -100,6 +105,7 @@ impl Device {
             log_end: AtomicU64::default(),
             durable: AtomicU64::default(),
             is_at_log: AtomicBool::default(),
+            log_turn: Mutex::default(),
             numbers: AtomicU64::new(seed),
             faults_in: AtomicU64::new(faults_in),
             reads: AtomicU64::default(),
@@ -115,17 +121,17 @@ impl Device {
         &self.places[page as usize]
     }
 
-    fn rest(&self) {
+    fn rest(&self, most: u64) {
         match self.below(8) {
-            0 => thread::sleep(Duration::from_micros(self.below(5))),
+            0 => thread::sleep(Duration::from_micros(self.below(most))),
             1 => thread::yield_now(),
             _ => {}
         }
     }
 
-    /// Takes its time, and may fail.
-    fn work(&self) -> Result<(), ReadFault> {
-        self.rest();
+    /// Takes its time, up to so many microseconds, and may fail.
+    fn work(&self, most: u64) -> Result<(), ReadFault> {
+        self.rest(most);
         match self.faults_in.load(Ordering::Relaxed) {
             0 => Ok(()),
             faults_in => match self.below(faults_in) {
@@ -137,8 +143,8 @@ impl Device {
         }
     }
 
-    fn write_or_fail(&self) -> io::Result<()> {
-        match self.work() {
+    fn write_or_fail(&self, most: u64) -> io::Result<()> {
+        match self.work(most) {
             Err(ReadFault::Device(error)) => Err(error),
             Err(ReadFault::WrongPage) | Ok(()) => Ok(()),
         }
@@ -153,6 +159,15 @@ impl Device {
         *self.place(page).bytes.lock().unwrap()
     }
 
+    /// Makes all of the log durable, for the pager or for the engine, and tells its end.
+    pub fn sync_log(&self) -> io::Result<u64> {
+        let _turn = self.log_turn.lock().unwrap_or_else(PoisonError::into_inner);
+        let end = self.end_of_log();
+        self.write_or_fail(OF_LOG)?;
+        self.durable.fetch_max(end, Ordering::AcqRel);
+        Ok(end)
+    }
+
     pub fn end_of_log(&self) -> u64 {
         self.log_end.load(Ordering::Acquire)
     }
@@ -163,7 +178,7 @@ impl PageIo for Device {
         let place = self.place(page);
         let _alone = Alone::at(&place.is_used);
         image.fill(0xa5);
-        self.work()?;
+        self.work(OF_PAGE)?;
         image.copy_from_slice(place.bytes.lock().unwrap().as_slice());
         assert_eq!(
             number_in(image),
@@ -185,7 +200,7 @@ impl PageIo for Device {
         );
         let [first, second] = HALVES;
         place.bytes.lock().unwrap()[first.clone()].copy_from_slice(&image[first]);
-        self.write_or_fail()?;
+        self.write_or_fail(OF_PAGE)?;
         place.bytes.lock().unwrap()[second.clone()].copy_from_slice(&image[second]);
         place.saved.store(lsn, Ordering::Release);
         self.writes.fetch_add(1, Ordering::Relaxed);
@@ -197,9 +212,7 @@ impl PageIo for Device {
         let _alone = Alone::at(&self.is_at_log);
         let end = self.end_of_log();
         assert!(lsn <= end, "no log record has LSN {lsn}");
-        self.write_or_fail()?;
-        self.durable.fetch_max(end, Ordering::AcqRel);
-        Ok(())
+        self.sync_log().map(drop)
     }
 
     /// It does not fail: after that an engine ends its pager.
@@ -209,7 +222,7 @@ impl PageIo for Device {
             .iter()
             .map(|it| it.saved.load(Ordering::Acquire));
         let saved: Vec<_> = saved.collect();
-        self.rest();
+        self.rest(OF_PAGE);
         for (place, lsn) in self.places.iter().zip(saved) {
             place.kept.fetch_max(lsn, Ordering::AcqRel);
         }

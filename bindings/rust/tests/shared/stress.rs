@@ -47,6 +47,7 @@ fn one_part() {
             parts: 1,
             seed,
             faults_in: 60,
+            several_in: 0,
         });
         assert!(kept > 0);
     }
@@ -61,6 +62,7 @@ fn four_parts() {
             parts: 4,
             seed,
             faults_in: 60,
+            several_in: 0,
         });
         assert!(kept > 0);
     }
@@ -77,6 +79,7 @@ fn device_that_often_fails() {
             parts: 1,
             seed,
             faults_in: 6,
+            several_in: 0,
         });
     }
 }
