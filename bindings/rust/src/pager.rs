@@ -11,9 +11,11 @@ use std::{error, fmt, io};
 ///
 /// The functions take `&self`: what they change is in a `Cell` or a `RefCell`, or with several
 /// threads under a lock. A file can be read and written through `&File`. A `SharedPager` calls them
-/// from several threads at once. It holds none of its locks meanwhile, but a calling thread may
-/// hold latches of pages. So [`make_log_durable`](PageIo::make_log_durable) must not need a lock
-/// that a thread holds while it waits for a page.
+/// from several threads at once. A calling thread may hold latches of pages. So
+/// [`make_log_durable`](PageIo::make_log_durable) must not need a lock that a thread holds while it
+/// waits for a page. What these functions may call of the pager itself, and how it refuses what would
+/// wait for itself, is said there:
+/// [what the functions of the engine may call](crate::SharedPager#what-the-functions-of-the-engine-may-call).
 ///
 /// A pager may also have its device behind a `&`, a `Box` or an `Arc`, so that the engine keeps the
 /// device, or chooses one at run time by `Box<dyn PageIo>`.

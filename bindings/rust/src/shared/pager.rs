@@ -112,10 +112,16 @@ use std::time::{Duration, Instant};
 /// further references would count as the same one.
 ///
 /// Such pins are told to LRU-K later: when a page is to make way, and at the latest after 32 of them.
-/// The clock moves on by their number, and they are one reference, at the time of the newest of them.
-/// What is given up by that is the order of such pins among each other between two reads of pages, and
-/// how many references they are where they are further apart than the correlated period but no page
-/// was read meanwhile. With [`SharedConfig::tells_each_pin`] nothing is given up.
+/// The clock moves on by their number, and they are one reference. Two things are given up by that, of
+/// pages that are pinned or were used within the period:
+///
+/// - The order of their uses between two reads of pages. LRU-K learns them page by page. Where they go
+///   on for longer than the period while no page is read, they may count as fewer references.
+/// - When the newest use of a page was, to the tick, where others joined it within the period.
+///
+/// With a correlated period of 0 only a page that is pinned already is pinned without a lock: 32 such
+/// pins are one reference, and fewer are none. Nothing is given up with
+/// [`SharedConfig::tells_each_pin`].
 ///
 /// # Where a call fails
 /// Nothing is lost where the device or the log fails or panics: the page that was to be read is in
