@@ -11,8 +11,11 @@ mod faulty;
 use engine::{Engine, Settings, Told};
 use faulty::Numbers;
 use std::sync::atomic::{AtomicBool, Ordering};
-use std::time::Duration;
+use std::time::{Duration, Instant};
 use std::{env, thread};
+
+/// So long it goes on at most until a checkpoint went well.
+const LONGEST: Duration = Duration::from_secs(60);
 
 fn seconds() -> f64 {
     let told = env::var("HOJZMATED_SOAK_SECONDS").ok();
@@ -27,7 +30,7 @@ fn run(threads: u64, settings: &Settings, time: Duration) -> u64 {
         .pager
         .start_cleaner(4, Duration::from_millis(2))
         .unwrap();
-    let has_ended = AtomicBool::new(false);
+    let (began, has_ended) = (Instant::now(), AtomicBool::new(false));
     let calls = thread::scope(|scope| {
         let work = |thread| {
             let mut calls = 0;
@@ -40,7 +43,13 @@ fn run(threads: u64, settings: &Settings, time: Duration) -> u64 {
         let workers: Vec<_> = (0..threads)
             .map(|thread| scope.spawn(move || work(thread)))
             .collect();
-        thread::sleep(time);
+        let is_over = |at: Duration| {
+            let has_kept = engine.kept.load(Ordering::Relaxed) > 0 || at > LONGEST;
+            at > time && has_kept
+        };
+        while !is_over(began.elapsed()) && workers.iter().all(|it| !it.is_finished()) {
+            thread::sleep(Duration::from_millis(10));
+        }
         has_ended.store(true, Ordering::Relaxed);
         workers.into_iter().map(|it| it.join().unwrap()).sum()
     });

@@ -139,10 +139,9 @@ impl Queues {
                 return;
             }
             // Only the first is awake. Where readers are before it, the latch is handed over.
-            if queue.let_in == ticket && mem::take(&mut queue.is_awake) {
-                if queue.first == 0 && queue.let_writer_in(seat) {
-                    return;
-                }
+            let looks = queue.let_in == ticket && mem::take(&mut queue.is_awake);
+            if looks && queue.first == 0 && queue.let_writer_in(seat) {
+                return;
             }
         }
     }

@@ -406,7 +406,7 @@ impl<F: PageIo> SharedPager<F> {
                 Err(Error::NeedLog { lsn }) => {
                     let unlogged = Unlogged::new(part, state);
                     let locked = self.reach_log(part, lsn)?;
-                    unlogged.is_logged();
+                    unlogged.end();
                     locked
                 }
                 Err(Error::Busy) => part.wait_for_work(state, own)?,

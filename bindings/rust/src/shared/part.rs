@@ -498,7 +498,7 @@ impl<'a> Unlogged<'a> {
     }
 
     /// Notes that its record is durable.
-    pub(super) fn is_logged(mut self) {
+    pub(super) fn end(mut self) {
         self.victim = None;
     }
 }
