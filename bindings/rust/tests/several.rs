@@ -14,7 +14,7 @@ use std::sync::atomic::{AtomicBool, Ordering};
 use std::time::{Duration, Instant};
 use std::{env, thread};
 
-/// So long it goes on at most until a checkpoint went well.
+/// So long it goes on at most until a checkpoint went well, and a read or write-out did not.
 const LONGEST: Duration = Duration::from_secs(60);
 
 fn seconds() -> f64 {
@@ -44,8 +44,13 @@ fn run(threads: u64, settings: &Settings, time: Duration) -> u64 {
             .map(|thread| scope.spawn(move || work(thread)))
             .collect();
         let is_over = |at: Duration| {
-            let has_kept = engine.kept.load(Ordering::Relaxed) > 0 || at > LONGEST;
-            at > time && has_kept
+            let totals = engine.pager.stats().totals;
+            let counts = [
+                engine.kept.load(Ordering::Relaxed),
+                totals.evictions,
+                totals.failed,
+            ];
+            at > time && (!counts.contains(&0) || at > LONGEST)
         };
         while !is_over(began.elapsed()) && workers.iter().all(|it| !it.is_finished()) {
             thread::sleep(Duration::from_millis(10));
