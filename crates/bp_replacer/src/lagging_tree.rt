@@ -8,7 +8,6 @@ use crate::marks::Marks;
 use crate::seat_list::SeatList;
 use crate::tournament::{Seat, Tournament, precedes};
 use crate::young::Young;
-use bp_page::PageNo;
 use std::alloc::{AllocError, Global};
 use std::marker::Model;
 
@@ -89,40 +88,6 @@ fn same_seat(a: &Seat, b: &Seat) -> bool
     }
 }
 
-// Returns true if a candidate is likely to be old enough before it comes first, where `least` is the K-th stamp of who
-// comes first at this time: K-th stamps of victims rise about as the time does. No answer depends on it.
-fn ages_in_time(candidate: &(u64, u64, PageNo), time: u64, least: u64) -> bool {
-    candidate.0 >= least.saturating_add(candidate.1.saturating_sub(time))
-}
-
-// Lets the candidate of a seat wait, if it was not last referenced before a time, nor ages in time. Returns false, and
-// changes nothing, where it does not wait.
-fn wait_from(young: &mut Young, seat: usize, entry: &Seat, time: u64, least: u64) -> bool
-    requires { seat < length young.old }
-    ensures waits { IsTrue result → AreYoung (since young.new seat) entry.now }
-    ensures refused { IsFalse result → young.new ≡ young.old }
-    ensures later { IsLater time seat young.old young.new }
-{
-    match entry {
-        None => false,
-        Some(x) => x.1 >= time && !ages_in_time(x, time, least) && young.wait(seat, x.1),
-    }
-}
-
-// Lets each seat wait whose candidate was not last referenced before a time, nor ages in time, and no other.
-fn renew(young: &mut Young, seats: &SeatList, time: u64, least: u64)
-    requires { length young.old ≡ length seats.now }
-    ensures { AreAnew time young.new seats.now }
-{
-    young.clear();
-    let mut seat = 0usize;
-    while seat < seats.len() {
-        let entry = seats.find(seat);
-        wait_from(young, seat, &entry, time, least);
-        seat += 1;
-    }
-}
-
 // Brings the tree up to date at one seat, by a walk, or at all seats, by a pass. Who was not last referenced before the
 // time, nor ages in time, waits apart instead. A number past the seats stands for none.
 fn settle(
@@ -140,8 +105,7 @@ fn settle(
     ensures { IsSettled tree.old young.old seats.now seat time tree.new young.new }
 {
     if all {
-        renew(young, seats, time, least);
-        tree.put_all(seats, young);
+        tree.put_all(seats, young, time, least);
         behind.unset_all();
         return;
     }
@@ -150,7 +114,7 @@ fn settle(
     }
     behind.unset(seat);
     let entry = seats.find(seat);
-    if !wait_from(young, seat, &entry, time, least) {
+    if !young.wait_from(seat, &entry, time, least) {
         tree.put(seat, entry);
     } else if tree.find(seat).is_some() {
         tree.put(seat, None);
@@ -224,7 +188,7 @@ impl LaggingTree {
             return;
         }
         self.behind.unset(seat);
-        if !wait_from(&mut self.young, seat, &entry, 0, u64::MAX) {
+        if !self.young.wait_from(seat, &entry, 0, u64::MAX) {
             self.tree.put(seat, entry);
         }
     }

@@ -50,6 +50,13 @@ impl Queue {
         self.pages.reserve(room.saturating_sub(self.pages.len()))
     }
 
+    /// Returns true if no page waits.
+    pub(crate) fn is_empty(&self) -> bool
+        ensures { IsTrue result → self.now.pages ≡ [] }
+    {
+        self.pages.len() == 0
+    }
+
     /// Returns true if there is room for one more page.
     pub(crate) fn has_room(&self) -> bool
         ensures { IsTrue result → length self.now.pages < self.now.room }

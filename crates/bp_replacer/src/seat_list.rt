@@ -84,13 +84,4 @@ impl SeatList {
             self.entries[seat] = candidate;
         }
     }
-
-    /// Copies all seats of another list, of as many seats.
-    pub fn copy_from(&mut self, other: &SeatList)
-        requires { length other.now ≡ length self.old }
-        ensures { self.new ≡ other.now }
-    {
-        self.taken.copy_from_slice(&other.taken);
-        self.entries.copy_from_slice(&other.entries);
-    }
 }

@@ -3,7 +3,7 @@ ghost use Rattle.std.specs.Prelude.{◌≡◌, ◌⊎◌, ◌*◌, ◌+◌, ◌/
 ghost use Rattle.bp_references.specs.Candidates.{Candidate, is_before};
 ghost use Rattle.bp_replacer.specs.Seats.{winner, seat_at, is_aged, node, IsFirst, IsFirstAt, IsFirstBelow, IsTournament};
 ghost use Rattle.bp_replacer.specs.Replay.{IsWonUpTo};
-ghost use Rattle.bp_replacer.specs.Young.{AreKnown};
+ghost use Rattle.bp_replacer.specs.Young.{AreAnew, AreKnown};
 
 use crate::seat_list::SeatList;
 use crate::young::Young;
@@ -139,18 +139,21 @@ fn first_below(nodes: &[usize], seats: &SeatList, at: usize, time: u64) -> usize
     winner(seats, left, right)
 }
 
-// Empties the seats that wait.
-fn empty_waiting(seats: &mut SeatList, young: &Young)
-    requires { length young.now ≡ length seats.old }
-    ensures { AreKnown seats.new young.now seats.old }
+// Copies all seats of another list, but for those whose candidates wait: these are emptied. Each candidate that was not
+// last referenced before a time, nor ages in time, waits, and no other does.
+fn copy_others(known: &mut SeatList, seats: &SeatList, young: &mut Young, time: u64, least: u64)
+    requires as_many { length known.old ≡ length seats.now }
+    requires waiting { length young.old ≡ length seats.now }
+    ensures anew { AreAnew time young.new seats.now }
+    ensures known { AreKnown known.new young.new seats.now }
 {
-    let mut next = 0usize;
-    while next < seats.len() {
-        let seat = next;
-        next += 1;
-        if young.waits(seat) {
-            seats.put(seat, None);
-        }
+    young.clear();
+    let mut seat = 0usize;
+    while seat < seats.len() {
+        let entry = seats.find(seat);
+        let waits = young.wait_from(seat, &entry, time, least);
+        known.put(seat, if waits { None } else { entry });
+        seat += 1;
     }
 }
 
@@ -218,14 +221,15 @@ impl Tournament {
         replay(&mut self.nodes, &self.seats, seat);
     }
 
-    /// Copies all seats of a list of as many, but for those that wait: these are emptied.
-    pub fn put_all(&mut self, seats: &SeatList, young: &Young)
+    /// Copies all seats of a list of as many, but for those that wait: these are emptied. Each candidate that was not last
+    /// referenced before a time, nor ages in time, waits, and no other does.
+    pub fn put_all(&mut self, seats: &SeatList, young: &mut Young, time: u64, least: u64)
         requires as_many { length seats.now ≡ length self.old }
-        requires waiting { length young.now ≡ length self.old }
-        ensures { AreKnown self.new young.now seats.now }
+        requires waiting { length young.old ≡ length self.old }
+        ensures anew { AreAnew time young.new seats.now }
+        ensures known { AreKnown self.new young.new seats.now }
     {
-        self.seats.copy_from(seats);
-        empty_waiting(&mut self.seats, young);
+        copy_others(&mut self.seats, seats, young, time, least);
         replay_all(&mut self.nodes, &self.seats);
     }
 }

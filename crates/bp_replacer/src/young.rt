@@ -1,8 +1,10 @@
 //! `Young`: the seats whose candidates wait to come of age.
 ghost use Rattle.std.specs.Prelude.{◌≡◌, ◌⊎◌, ℕ, ◌<◌, ◌≤◌, nat_lt, IsTrue, IsFalse, IfOk, IfSome, IfNone, length, replicate, set};
-ghost use Rattle.bp_replacer.specs.Young.{since, IsYoung, NoneBelow};
+ghost use Rattle.bp_replacer.specs.Young.{since, IsYoung, NoneBelow, AreYoung, IsLater};
 
 use crate::queue::Queue;
+use crate::tournament::Seat;
+use bp_page::PageNo;
 use std::alloc::{AllocError, Global};
 use std::marker::Model;
 
@@ -26,6 +28,12 @@ impl Model for Young {
     ghost invariant = { λ y. AreQueued y.since.items y.queue.pages };
 }
 
+// Returns true if a candidate is likely to be old enough before it comes first, where `least` is the K-th stamp of who
+// comes first at this time: K-th stamps of victims rise about as the time does. No answer depends on it.
+fn ages_in_time(candidate: &(u64, u64, PageNo), time: u64, least: u64) -> bool {
+    candidate.0 >= least.saturating_add(candidate.1.saturating_sub(time))
+}
+
 impl Young {
     /// Makes `size` seats, none of which waits. It fails by want of memory alone; no other call takes any.
     pub fn new(alloc: Global, size: usize) -> Result<Young, AllocError>
@@ -37,20 +45,14 @@ impl Young {
         Ok(Young { since, queue })
     }
 
-    /// Returns true if a seat waits.
-    pub fn waits(&self, seat: usize) -> bool
-        requires { seat < length self.now }
-        ensures { result ≡ nat_lt 0 (since self.now seat) }
-    {
-        self.since[seat] > 0
-    }
-
     /// Lets no seat wait any more.
     pub fn clear(&mut self)
         ensures { self.new ≡ replicate (length self.old) 0 }
     {
-        self.since.fill(0);
-        self.queue.clear();
+        if !self.queue.is_empty() {
+            self.since.fill(0);
+            self.queue.clear();
+        }
     }
 
     /// Lets a seat wait since a time, or an earlier one since which it waits already. Returns false, and changes
@@ -71,6 +73,20 @@ impl Young {
         self.queue.push(time, seat as u64);
         self.since[seat] = time;
         true
+    }
+
+    /// Lets the candidate of a seat wait, if it was not last referenced before a time, nor ages in time. Returns false,
+    /// and changes nothing, where it does not wait.
+    pub fn wait_from(&mut self, seat: usize, entry: &Seat, time: u64, least: u64) -> bool
+        requires { seat < length self.old }
+        ensures waits { IsTrue result → AreYoung (since self.new seat) entry.now }
+        ensures refused { IsFalse result → self.new ≡ self.old }
+        ensures later { IsLater time seat self.old self.new }
+    {
+        match entry {
+            None => false,
+            Some(x) => x.1 >= time && !ages_in_time(x, time, least) && self.wait(seat, x.1),
+        }
     }
 
     /// Takes out a seat that waits since before a time. `None` where none does.

@@ -20,7 +20,7 @@ returns-else-is_some c =
       omega arith,
       inr (record {
         known_is = sym (subst (λ e. set known seat e ≡ known) nobody (set-get_or known seat None));
-        young = subst (AreYoung (since c.wait_from.new.young seat)) c.find-entry.ensures (c.wait_from.ensures.waits c.if-not-wait_from.false);
+        young = subst (AreYoung (since c.wait_from.new.self seat)) c.find-entry.ensures (c.wait_from.ensures.waits c.if-not-wait_from.false);
         later = c.wait_from.ensures.later;
       }),
     )

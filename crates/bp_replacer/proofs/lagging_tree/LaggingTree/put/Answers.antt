@@ -13,4 +13,4 @@ invariant_of-self-else-not-wait_from c =
     let i = c.self.inside in
     let in_range = subst (λ seats. c.args.seat < length seats) (sym c.self.view_is) c.requires in
     let e = c.wait_from.ensures in
-    rw c.put.ensures (put_waits i.tree i.young i.seats i.hand c.args.seat c.args.entry in_range c.self.invariant c.wait_from.new.young 0 e.later (e.waits c.if-not-wait_from.false))
+    rw c.put.ensures (put_waits i.tree i.young i.seats i.hand c.args.seat c.args.entry in_range c.self.invariant c.wait_from.new.self 0 e.later (e.waits c.if-not-wait_from.false))
