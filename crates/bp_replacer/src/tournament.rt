@@ -2,7 +2,7 @@
 ghost use Rattle.std.specs.Prelude.{◌≡◌, ◌⊎◌, ◌*◌, ◌+◌, ◌/◌, ◌^◌, ◌<◌, ◌≤◌, IfOk, IfSome, IfNone, None, length, replicate, set};
 ghost use Rattle.bp_references.specs.Candidates.{Candidate, is_before};
 ghost use Rattle.bp_replacer.specs.Seats.{winner, seat_at, is_aged, node, IsFirst, IsFirstAt, IsFirstBelow, IsTournament};
-ghost use Rattle.bp_replacer.specs.Replay.{IsWonUpTo};
+ghost use Rattle.bp_replacer.specs.Replay.{IsWonUpTo, IsWonFrom};
 ghost use Rattle.bp_replacer.specs.Young.{AreAnew, AreKnown};
 
 use crate::seat_list::SeatList;
@@ -105,17 +105,30 @@ fn replay(nodes: &mut [usize], seats: &SeatList, seat: usize)
     }
 }
 
-// Recomputes each node, from the last one to the root: so each comes after the two below it.
-fn replay_all(nodes: &mut [usize], seats: &SeatList)
-    requires { length nodes.old ≡ length seats.now }
+// Recomputes each node before this one, from the last one to the root: so each comes after the two below it.
+fn replay_from(nodes: &mut [usize], seats: &SeatList, from: usize)
+    requires in_range { from ≤ length nodes.old }
+    requires rest { IsWonFrom nodes.old seats.now from }
     ensures won { IsTournament nodes.new seats.now }
 {
-    let mut at = nodes.len();
+    let mut at = from;
     while at > 1 {
         at -= 1;
         let left = node(nodes, 2 * at);
         let right = node(nodes, 2 * at + 1);
         nodes[at] = winner(seats, left, right);
+    }
+}
+
+// Recomputes the node right above a seat, if the seat is the left one of two.
+fn replay_left(nodes: &mut [usize], seats: &SeatList, seat: usize)
+    requires in_range { seat < length seats.now }
+    requires rest { IsWonFrom nodes.old seats.now ((length seats.now + seat) / 2 + 1) }
+    ensures { IsWonFrom nodes.new seats.now ((length seats.now + seat + 1) / 2) }
+{
+    let at = seats.len() + seat;
+    if at % 2 == 0 {
+        nodes[at / 2] = winner(seats, seat, seat + 1);
     }
 }
 
@@ -140,21 +153,33 @@ fn first_below(nodes: &[usize], seats: &SeatList, at: usize, time: u64) -> usize
 }
 
 // Copies all seats of another list, but for those whose candidates wait: these are emptied. Each candidate that was not
-// last referenced before a time, nor ages in time, waits, and no other does.
-fn copy_others(known: &mut SeatList, seats: &SeatList, young: &mut Young, time: u64, least: u64)
+// last referenced before a time, nor ages in time, waits, and no other does. Recomputes each node: those right above
+// the seats on the way, while the two seats below each are at hand, and then the others.
+fn copy_and_replay(
+    nodes: &mut [usize],
+    known: &mut SeatList,
+    seats: &SeatList,
+    young: &mut Young,
+    time: u64,
+    least: u64,
+)
+    requires nodes { length nodes.old ≡ length seats.now }
     requires as_many { length known.old ≡ length seats.now }
     requires waiting { length young.old ≡ length seats.now }
     ensures anew { AreAnew time young.new seats.now }
     ensures known { AreKnown known.new young.new seats.now }
+    ensures won { IsTournament nodes.new known.new }
 {
     young.clear();
-    let mut seat = 0usize;
-    while seat < seats.len() {
+    let mut seat = seats.len();
+    while seat > 0 {
+        seat -= 1;
         let entry = seats.find(seat);
         let waits = young.wait_from(seat, &entry, time, least);
         known.put(seat, if waits { None } else { entry });
-        seat += 1;
+        replay_left(nodes, known, seat);
     }
+    replay_from(nodes, known, seats.len() - seats.len() / 2);
 }
 
 impl Tournament {
@@ -164,7 +189,7 @@ impl Tournament {
     {
         let mut nodes = vec![in alloc; 0; size]?;
         let seats = SeatList::new(alloc, size)?;
-        replay_all(&mut nodes, &seats);
+        replay_from(&mut nodes, &seats, size);
         Ok(Tournament { nodes, seats })
     }
 
@@ -229,8 +254,7 @@ impl Tournament {
         ensures anew { AreAnew time young.new seats.now }
         ensures known { AreKnown self.new young.new seats.now }
     {
-        copy_others(&mut self.seats, seats, young, time, least);
-        replay_all(&mut self.nodes, &self.seats);
+        copy_and_replay(&mut self.nodes, &mut self.seats, seats, young, time, least);
     }
 }
 

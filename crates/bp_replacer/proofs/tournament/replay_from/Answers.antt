@@ -1,11 +1,11 @@
 use Rattle.std.proofs.Common.{◌∙◌, ◌-◌, sym, inl, inr, arith, length}
 use Rattle.std.proofs.lemmas.List.{length-set}
 use Rattle.bp_replacer.specs.Seats.{winner, seat_at}
-use Rattle.bp_replacer.proofs.PassLaws.{none_yet, won_next, won_from_root}
-use Rattle.bp_replacer.proofs.tournament.replay_all.Goals as goal
+use Rattle.bp_replacer.proofs.PassLaws.{won_next, won_from_root}
+use Rattle.bp_replacer.proofs.tournament.replay_from.Goals as goal
 
 pub loop-at-init : goal.loop-at-init
-loop-at-init c = record { in_range = omega arith; won = none_yet c.args.nodes.now c.args.seats.now (length c.args.nodes.now) c.requires (omega arith) }
+loop-at-init c = record { in_range = c.requires.in_range; won = c.requires.rest }
 
 pub loop-at-preserved : goal.loop-at-preserved
 loop-at-preserved c =

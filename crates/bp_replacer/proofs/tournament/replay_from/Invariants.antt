@@ -1,6 +1,6 @@
 use Rattle.std.proofs.Common.{◌≤◌, length}
 use Rattle.bp_replacer.specs.Replay.{IsWonFrom}
-use Rattle.bp_replacer.proofs.tournament.replay_all.Given as goal
+use Rattle.bp_replacer.proofs.tournament.replay_from.Given as goal
 
 abbrev pub invariant-loop-at : goal.invariant-loop-at
 invariant-loop-at l = record {
