@@ -1,9 +1,8 @@
 -- Candidates at seats: who is seated, and the victim among them.
-use Rattle.std.proofs.Common.{◌≡◌, ◌≢◌, ◌∙◌, ℕ, set, zero, suc, ◌-◌, ◌<◌, nat_lt, Bool, true, false, List, [], ◌∷◌, length, filter, Option, Some, None, refl, sym, ap, inl, inr, arith}
-use Rattle.std.proofs.lemmas.Bool.{cases_Bool, cases_eq, eq-eqb, ne_eqb, lt-ltb}
+use Rattle.std.proofs.Common.{◌≡◌, ℕ, zero, suc, ◌-◌, ◌<◌, nat_lt, Bool, true, false, List, [], ◌∷◌, length, filter, Option, Some, None, refl, sym, ap, inl, inr, arith}
+use Rattle.std.proofs.lemmas.Bool.{cases_Bool, lt-ltb}
 use Rattle.std.proofs.lemmas.Bool.Decides.{nat_tests}
 use Rattle.std.proofs.lemmas.Option.{none-some, same_Some}
-use Rattle.std.proofs.lemmas.List.{set-set}
 use Rattle.bp_references.specs.Candidates.{Candidate, is_eligible, IsVictim, NoPageTwice}
 use Rattle.bp_replacer.specs.Seats.{Seated, entered, seated_in, IsFirst, seat_at}
 use Rattle.bp_references.proofs.Lists.{IsIn, in_filtered, filtered_in}

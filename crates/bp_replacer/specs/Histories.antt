@@ -1,5 +1,5 @@
 -- The stamps of all pages.
-use Rattle.std.specs.Prelude.{◌≡◌, ◌≢◌, ◌∷◌, ℕ, zero, suc, ◌+◌, ◌-◌, ◌≤◌, ◌&&◌, nat_lt, nat_eq, Bool, true, false, not, List, [], Option, unwrap_or, slice_index, if◌then◌else◌}
+use Rattle.std.specs.Prelude.{◌≡◌, ◌≢◌, ◌∷◌, ℕ, zero, suc, ◌-◌, ◌≤◌, ◌&&◌, nat_lt, nat_eq, Bool, true, false, not, List, [], Option, unwrap_or, slice_index, if◌then◌else◌}
 use Rattle.std.specs.Option.{is_some}
 use Rattle.std.specs.Map.{lookup}
 use Rattle.bp_replacer.specs.declared.histories.Block.{Block}

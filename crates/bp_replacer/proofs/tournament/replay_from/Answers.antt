@@ -1,4 +1,4 @@
-use Rattle.std.proofs.Common.{◌∙◌, ◌-◌, sym, inl, inr, arith, length}
+use Rattle.std.proofs.Common.{◌∙◌, ◌-◌, sym, inl, inr, arith}
 use Rattle.std.proofs.lemmas.List.{length-set}
 use Rattle.bp_replacer.specs.Seats.{winner, seat_at}
 use Rattle.bp_replacer.proofs.PassLaws.{won_next, won_from_root}

@@ -1,4 +1,4 @@
-use Rattle.std.proofs.Common.{◌∙◌, ap, sym, length, None, arith}
+use Rattle.std.proofs.Common.{◌∙◌, ap, length, None, arith}
 use Rattle.std.proofs.lemmas.List.{length-replicate}
 use Rattle.bp_replacer.proofs.PassLaws.{none_yet}
 use Rattle.bp_replacer.proofs.tournament.Tournament.new.Goals as goal
