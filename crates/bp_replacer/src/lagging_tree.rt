@@ -33,9 +33,9 @@ const SEATS_A_TAKE: usize = 128;
 /// Whoever enters at a seat that the tree may not lag behind waits apart, in a queue by last time, so that nobody who
 /// is too young hides the others in the tree. A look first takes out of the queue who came of age. One of them is kept
 /// in hand, out of the tree too: whoever comes first. So one that is replaced as soon as it is old enough takes no
-/// walk; each of the others takes one. A page that a look finds in a wrong place, and too young, waits apart as well, unless
-/// it is likely to be old enough before it comes first. Where it comes first too soon after all, the next look lets it
-/// wait, up to 16 pages a look.
+/// walk; each of the others takes one. A page that a look finds in a wrong place, and too young, waits apart as well,
+/// unless it is likely to be old enough before it comes first. Where it comes first too soon after all, the next look
+/// lets it wait, up to 16 pages a look.
 ///
 /// Where one look took 16 walks already, and the tree may lag behind one in 16 of the seats, a pass takes the place of
 /// the next walk: the tree copies the seats of all that do not wait, each node is computed once from scratch, and who

@@ -20,7 +20,7 @@ pub type Seat = Option<(u64, u64, PageNo)>;
 /// first node that has the number it had, if that is not the number of the seat: no node above has the candidate that
 /// stood there or stands there now. So it takes one step where the seat, before and after the change, comes after its
 /// neighbour. `put_all` changes all seats at once, and computes each node from scratch, from the last one to the root:
-/// O(seats), and no walk.
+/// O(seats), and no walk. It reads each seat once, and computes the node right above two seats as it copies them.
 ///
 /// `first_before` asks the root, and goes down below those nodes whose candidate was not last referenced before the
 /// time that is asked for. So the root knows the answer where none was that comes first of all, and else `first_before`
@@ -246,8 +246,8 @@ impl Tournament {
         replay(&mut self.nodes, &self.seats, seat);
     }
 
-    /// Copies all seats of a list of as many, but for those that wait: these are emptied. Each candidate that was not last
-    /// referenced before a time, nor ages in time, waits, and no other does.
+    /// Copies all seats of a list of as many, but for those whose candidates wait: these are emptied. Who waits is told
+    /// anew, as by `Young::wait_from`.
     pub fn put_all(&mut self, seats: &SeatList, young: &mut Young, time: u64, least: u64)
         requires as_many { length seats.now ≡ length self.old }
         requires waiting { length young.old ≡ length self.old }

@@ -45,7 +45,7 @@ impl Young {
         Ok(Young { since, queue })
     }
 
-    /// Lets no seat wait any more.
+    /// Lets no seat wait any more. Where none is in the queue, it takes no time.
     pub fn clear(&mut self)
         ensures { self.new ≡ replicate (length self.old) 0 }
     {
@@ -75,8 +75,9 @@ impl Young {
         true
     }
 
-    /// Lets the candidate of a seat wait, if it was not last referenced before a time, nor ages in time. Returns false,
-    /// and changes nothing, where it does not wait.
+    /// Lets the candidate of a seat wait, if it was not last referenced before a time, nor is likely to be old enough
+    /// before it comes first, where `least` is the K-th stamp of who comes first at that time. Returns false, and
+    /// changes nothing, where it does not wait.
     pub fn wait_from(&mut self, seat: usize, entry: &Seat, time: u64, least: u64) -> bool
         requires { seat < length self.old }
         ensures waits { IsTrue result → AreYoung (since self.new seat) entry.now }
