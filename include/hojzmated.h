@@ -4,11 +4,11 @@
  * The pool does no input or output and takes no lock. Two threads may use one core, in turn, under a lock of yours.
  *
  * Each call that returns a uint16_t returns 0, or the number of a refusal; hz_text has its text. A null pointer, but
- * for that of a buffer of length 0, is refused with 52 before all else. A handle with no core is then refused with 50
- * by each call but hz_core_new. In both cases nothing is written. Any other refusal leaves what the call would have
- * written as it was, but for hz_fixed, whose kind is then 0. Any client, page, offset, length, pass or ticket may be
- * passed: what is not of this core is refused. Where a call may be refused for several reasons, the first of those
- * listed with it is told.
+ * for that of a buffer of length 0, is refused with HZ_NULL before all else. A handle with no core is then refused
+ * with HZ_NO_CORE by each call but hz_core_new. In both cases nothing is written. Any other refusal leaves what the
+ * call would have written as it was, but for hz_fixed, whose kind is then 0. Any client, page, offset, length, pass or
+ * ticket may be passed: what is not of this core is refused. Where a call may be refused for several reasons, the
+ * first of those listed with it is told.
  *
  * These the library cannot tell, and what it does then is not defined: a handle that is neither all zero nor as these
  * calls left it, or that is a copy; a pointer to other memory than its type says, or to fewer bytes than the length
@@ -98,7 +98,7 @@ typedef struct hz_grant {
 /* What a fix or a flush gave. */
 typedef struct hz_fixed {
     hz_grant grant;
-    uint64_t lsn;     /* kind 3: the page LSN of the image; refusal 12: how far the log has to be durable first */
+    uint64_t lsn;     /* HZ_WRITE_FIRST: the page LSN of the image; HZ_NEED_LOG: how far the log has to be durable */
     uint64_t evicted; /* the page that left its frame, where has_evicted */
     uint8_t kind;
     uint8_t has_evicted; /* 0 or 1 */
@@ -119,7 +119,7 @@ typedef struct hz_stats {
     uint64_t evictions; /* pages that left a frame for another */
     uint64_t writes;    /* write-outs that went well */
     uint64_t failed;    /* reads and write-outs that failed */
-    uint64_t refused;   /* calls that were refused with 11, 12 or 13 */
+    uint64_t refused;   /* calls that were refused with HZ_NO_VICTIM, HZ_NEED_LOG or HZ_BUSY */
     size_t resident;    /* pages in frames */
     size_t pinned;      /* of these, pages of which a pass is out */
     size_t unsaved;     /* of these, pages that are unsaved */
@@ -127,89 +127,95 @@ typedef struct hz_stats {
     size_t writing;     /* pages that are being written out */
 } hz_stats;
 
-/* Makes a core in a handle that has none. Refused: 51; 1 for pages and page_size, 2 for the rest; 22. */
+/* Makes a core in a handle that has none. Refused: HZ_HAS_CORE; HZ_BAD_GEOMETRY for pages and page_size,
+ * HZ_BAD_SETTINGS for the rest; HZ_OUT_OF_MEMORY. */
 uint16_t hz_core_new(const hz_config *config, hz_core *core);
 
-/* Frees it, with all passes and tickets that are out. Refused: 50. */
+/* Frees it, with all passes and tickets that are out. Refused: HZ_NO_CORE. */
 uint16_t hz_core_free(hz_core *core);
 
 /* Fixes a page, which pins it. The buffer has the page size: where a page is to be written out first, its image is
  * copied there, and else it stays as it was. Refused:
  *
- *     41  where the core has no such client
- *     45  where the page is not of the file, or len is not the page size
- *     20  where the room left is less than 3
- *     13  where a read of the page is under way
- *     11  where no page may leave its frame: each is being read, pinned, being written out, or was referenced within
- *         the correlated period
- *     12  where the victim's log record is not durable yet: out->lsn tells it
- *     22  where the page is here, or is to be read or written
+ *     HZ_BAD_CLIENT     the core has no such client
+ *     HZ_OUT_OF_PAGE    the page is not of the file, or len is not the page size
+ *     HZ_TRAIL_FULL     the room left is less than 3
+ *     HZ_BUSY           a read of the page is under way
+ *     HZ_NO_VICTIM      no page may leave its frame: each is being read, pinned, being written out, or was referenced
+ *                       within the correlated period
+ *     HZ_NEED_LOG       the victim's log record is not durable yet: out->lsn tells it
+ *     HZ_OUT_OF_MEMORY  where the page is here, or is to be read or written
  */
 uint16_t hz_fix(hz_core *core, uint8_t client, uint64_t page, uint8_t *buffer, size_t len, hz_fixed *out);
 
-/* Ends a read: the page is in a frame, and pass is a pass for it. Refused: 45 where len is not the page size; 16; 22,
- * after which the ticket is still out. */
+/* Ends a read: the page is in a frame, and pass is a pass for it. Refused: HZ_OUT_OF_PAGE where len is not the page
+ * size; HZ_UNKNOWN_TICKET; HZ_OUT_OF_MEMORY. After the first and the last the ticket is still out. */
 uint16_t hz_read_end(hz_core *core, const hz_grant *ticket, const uint8_t *image, size_t len, hz_grant *pass);
 
-/* Ends a read that failed, and returns 19 where another page was found, else 17; or 16. */
+/* Ends a read that failed, or that found another page. Refused: HZ_UNKNOWN_TICKET. */
 uint16_t hz_read_failed(hz_core *core, const hz_grant *ticket, bool is_wrong_page);
 
-/* Ends a write-out. is_still_dirty gets 1 where the page was written to since it began, else 0. Refused: 18 where it
- * was not good, which ends it too; 16. */
+/* Ends a write-out. is_still_dirty gets 1 where the page is unsaved still: the write-out was not good, or the page was
+ * written to since it began. Else it gets 0. Refused: HZ_UNKNOWN_TICKET. */
 uint16_t hz_write_end(hz_core *core, const hz_grant *ticket, bool is_good, uint8_t *is_still_dirty);
 
-/* Gives a pass back. Refused: 14. */
+/* Gives a pass back. Refused: HZ_UNKNOWN_PASS. */
 uint16_t hz_unfix(hz_core *core, const hz_grant *pass);
 
-/* Copies len bytes of the page from the offset on. Refused: 45, 20, 14. */
+/* Copies len bytes of the page from the offset on. Refused: HZ_OUT_OF_PAGE, HZ_TRAIL_FULL, HZ_UNKNOWN_PASS. */
 uint16_t hz_read(hz_core *core, const hz_grant *pass, size_t offset, uint8_t *into, size_t len);
 
 /* Lends the page: tells in *bytes where its bytes are, as many as the page size, in the memory of the core. There they
  * stay as long as this pass is out and the core is not freed, whatever other calls come: fixes, loads, write-outs. They
  * change by hz_write alone, through whichever pass of the page. They may be looked at and not written to. No alignment
- * is promised. It is no call that the room counts. Refused: 14. */
-uint16_t hz_page(hz_core *core, const hz_grant *pass, const uint8_t **bytes);
+ * is promised. It is no call that the room counts. Refused: HZ_UNKNOWN_PASS. */
+uint16_t hz_page(const hz_core *core, const hz_grant *pass, const uint8_t **bytes);
 
-/* Puts len bytes into the page from the offset on, under the log record lsn. Refused: 45, 20, 14. */
+/* Puts len bytes into the page from the offset on, under the log record lsn. Refused: HZ_OUT_OF_PAGE, HZ_TRAIL_FULL,
+ * HZ_UNKNOWN_PASS. */
 uint16_t hz_write(hz_core *core, const hz_grant *pass, size_t offset, const uint8_t *bytes, size_t len, uint64_t lsn);
 
-/* Moves the clock on by n. It starts at 1. Refused: 41; 20; 21 where it would pass 2^62. */
+/* Moves the clock on by n. It starts at 1. Refused: HZ_BAD_CLIENT; HZ_TRAIL_FULL; HZ_CLOCK_FULL where it would pass
+ * 2^62. */
 uint16_t hz_tick(hz_core *core, uint8_t client, uint64_t n);
 
-/* Notes that the log is durable as far as lsn. Refused: 41, 20. */
+/* Notes that the log is durable as far as lsn. Refused: HZ_BAD_CLIENT, HZ_TRAIL_FULL. */
 uint16_t hz_mark(hz_core *core, uint8_t client, uint64_t lsn);
 
-/* Asks that a page be written out if it is unsaved: kind 3, 4 or 5, with the buffer as in hz_fix. Refused: 41, 45, 20,
- * 13 where the page is being read or written, 12 as in hz_fix, 22 where it is to be written. */
+/* Asks that a page be written out if it is unsaved: the kind is HZ_WRITE_FIRST, HZ_CLEAN or HZ_ABSENT, with the buffer
+ * as in hz_fix. Refused: HZ_BAD_CLIENT; HZ_OUT_OF_PAGE; HZ_TRAIL_FULL, where the room left is less than 2; HZ_BUSY,
+ * where the page is being read or written; HZ_NEED_LOG as in hz_fix; HZ_OUT_OF_MEMORY where it is to be written. */
 uint16_t hz_flush(hz_core *core, uint8_t client, uint64_t page, uint8_t *buffer, size_t len, hz_fixed *out);
 
 /* Forgets pages that are away and whose newest reference is older than the retained period. count gets how many.
- * Refused: 41, 20. */
+ * Refused: HZ_BAD_CLIENT, HZ_TRAIL_FULL. */
 uint16_t hz_purge(hz_core *core, uint8_t client, uint64_t *count);
 
 /* The calls from here to hz_is_resident only tell, and are no calls that the room counts.
  *
- * Tells the page LSN of a pass's page: the greatest LSN of its writes since it was read, or 0. Refused: 14. */
-uint16_t hz_page_lsn(hz_core *core, const hz_grant *pass, uint64_t *lsn);
+ * Tells the page LSN of a pass's page: the greatest LSN of its writes since it was read, or 0. Refused:
+ * HZ_UNKNOWN_PASS. */
+uint16_t hz_page_lsn(const hz_core *core, const hz_grant *pass, uint64_t *lsn);
 
 /* Tells the first unsaved page from this number on, in the order of the file, if there is one. */
-uint16_t hz_next_unsaved(hz_core *core, uint64_t from, hz_unsaved *out);
+uint16_t hz_next_unsaved(const hz_core *core, uint64_t from, hz_unsaved *out);
 
 /* Tells the page whose frame the next hz_fix takes, if that is of a page that is away: an unsaved one is written out
  * first, and where the log is not durable up to its page LSN that fix is refused with 12. has_page gets 1, or 0 where a
  * frame is free or no page may leave; page gets 0 then. */
-uint16_t hz_victim(hz_core *core, uint64_t *page, uint8_t *has_page);
+uint16_t hz_victim(const hz_core *core, uint64_t *page, uint8_t *has_page);
 
 /* Tells from where redo has to begin: the least LSN of all writes that are in no image on the device, one of LSN 0 too.
  * has_lsn gets 1, or 0 where there is no such write; lsn gets 0 then. Ask before the device is synced: what goes out
  * meanwhile may not be kept by that. */
-uint16_t hz_redo_from(hz_core *core, uint64_t *lsn, uint8_t *has_lsn);
+uint16_t hz_redo_from(const hz_core *core, uint64_t *lsn, uint8_t *has_lsn);
 
 /* Tells what was counted. */
-uint16_t hz_stats_of(hz_core *core, hz_stats *out);
+uint16_t hz_stats_of(const hz_core *core, hz_stats *out);
 
-/* Tells whether a page is in a frame: is_resident gets 1 or 0. Refused: 45 where the page is not of the file. */
-uint16_t hz_is_resident(hz_core *core, uint64_t page, uint8_t *is_resident);
+/* Tells whether a page is in a frame: is_resident gets 1 or 0. Refused: HZ_OUT_OF_PAGE where the page is not of the
+ * file. */
+uint16_t hz_is_resident(const hz_core *core, uint64_t page, uint8_t *is_resident);
 
 /* Writes the text of a number, as much as fits and with no zero at its end, and returns its whole length. Where `into`
  * is null nothing is written. */

@@ -7,9 +7,16 @@
  *
  * Each call returns 0, or the number of a refusal, and errno then tells of the device: it is EIO where the file ends
  * within the page. A call that a signal interrupts goes on.
+ *
+ * Where the compiler has no GNU extensions, as with -std=c11, include it before the headers of the system, or define
+ * _POSIX_C_SOURCE as 200809L before them.
  */
 #ifndef HZ_FILE_H
 #define HZ_FILE_H
+
+#if defined(__STRICT_ANSI__) && !defined(_POSIX_C_SOURCE) && !defined(_XOPEN_SOURCE) && !defined(_GNU_SOURCE)
+#define _POSIX_C_SOURCE 200809L
+#endif
 
 #include "hojzmated.h"
 #include <errno.h>
@@ -20,13 +27,33 @@
 /* The bytes before a page in a file of format 2: its number and its page LSN, each of 8 bytes, little end first. */
 #define HZ_FILE_HEAD 16
 
-/* A page file. Its pages stand one after the other, from its first byte on. */
+/* A page file, as hz_file_init makes it. Its pages stand one after the other, from its first byte on. */
 typedef struct hz_file {
     int fd;           /* open for reading and writing */
     int format;       /* 1: a page is its bytes. 2: it has HZ_FILE_HEAD bytes before them */
     size_t page_size; /* that of the core */
     uint8_t *slot;    /* memory for HZ_FILE_HEAD and a page: the page in it is hz_file_image */
 } hz_file;
+
+/* Describes a file that is open for reading and writing. The slot is memory of so many bytes. Refused, and nothing is
+ * written: HZ_NULL; HZ_BAD_GEOMETRY for a page size out of its limits; HZ_BAD_SETTINGS for a format that is not 1 or 2;
+ * HZ_OUT_OF_PAGE for a slot of less than HZ_FILE_HEAD and a page. */
+static inline uint16_t hz_file_init(hz_file *file, int fd, int format, size_t page_size, uint8_t *slot, size_t slot_len)
+{
+    if (!file || !slot)
+        return HZ_NULL;
+    if (page_size < 16 || page_size > 65536 || page_size % 16 != 0)
+        return HZ_BAD_GEOMETRY;
+    if (format != 1 && format != 2)
+        return HZ_BAD_SETTINGS;
+    if (slot_len < HZ_FILE_HEAD + page_size)
+        return HZ_OUT_OF_PAGE;
+    file->fd = fd;
+    file->format = format;
+    file->page_size = page_size;
+    file->slot = slot;
+    return HZ_DONE;
+}
 
 /* The page that is read or written next, of page_size bytes. */
 static inline uint8_t *hz_file_image(const hz_file *file)
@@ -69,7 +96,8 @@ static inline bool hz_file_move(const hz_file *file, bool is_write, uint64_t pag
     return true;
 }
 
-/* Reads a page into hz_file_image. Refused: 17; 19 where the file has the number of another page there. */
+/* Reads a page into hz_file_image. Refused: HZ_READ_FAILED; HZ_WRONG_PAGE where the file has the number of
+ * another page there. */
 static inline uint16_t hz_file_read(const hz_file *file, uint64_t page)
 {
     if (!hz_file_move(file, false, page))
@@ -77,7 +105,7 @@ static inline uint16_t hz_file_read(const hz_file *file, uint64_t page)
     return file->format == 2 && hz_file_get(file->slot) != page ? HZ_WRONG_PAGE : HZ_DONE;
 }
 
-/* Writes hz_file_image to the place of a page. A file of format 2 takes the LSN too. Refused: 18. */
+/* Writes hz_file_image to the place of a page. A file of format 2 takes the LSN too. Refused: HZ_WRITE_FAILED. */
 static inline uint16_t hz_file_write(const hz_file *file, uint64_t page, uint64_t lsn)
 {
     hz_file_put(file->slot, page);
@@ -85,7 +113,7 @@ static inline uint16_t hz_file_write(const hz_file *file, uint64_t page, uint64_
     return hz_file_move(file, true, page) ? HZ_DONE : HZ_WRITE_FAILED;
 }
 
-/* Brings what was written to the device. Refused: 18. */
+/* Brings what was written to the device. Refused: HZ_WRITE_FAILED. */
 static inline uint16_t hz_file_sync(const hz_file *file)
 {
     int done;
@@ -95,7 +123,8 @@ static inline uint16_t hz_file_sync(const hz_file *file)
     return done < 0 ? HZ_WRITE_FAILED : HZ_DONE;
 }
 
-/* Writes so many pages of zero bytes from the file's start on, as a new file needs them. Refused: 18. */
+/* Writes so many pages of zero bytes from the file's start on, as a new file needs them. Refused:
+ * HZ_WRITE_FAILED. */
 static inline uint16_t hz_file_fill(const hz_file *file, uint64_t pages)
 {
     uint16_t number = HZ_DONE;
@@ -105,7 +134,8 @@ static inline uint16_t hz_file_fill(const hz_file *file, uint64_t pages)
     return number;
 }
 
-/* Does the read that a fix asked for: asked->grant is then the pass. Refused: 17, 19, 22; the ticket has then ended. */
+/* Does the read that a fix asked for: asked->grant is then the pass. Refused: HZ_READ_FAILED, HZ_WRONG_PAGE,
+ * HZ_OUT_OF_MEMORY; the ticket has then ended. */
 static inline uint16_t hz_file_load(hz_core *core, const hz_file *file, hz_fixed *asked)
 {
     hz_grant ticket = asked->grant;
@@ -120,7 +150,8 @@ static inline uint16_t hz_file_load(hz_core *core, const hz_file *file, hz_fixed
     return found;
 }
 
-/* Does the write-out that a fix or a flush asked for, of the image in hz_file_image. Refused: 18. */
+/* Does the write-out that a fix or a flush asked for, of the image in hz_file_image. Refused:
+ * HZ_WRITE_FAILED. */
 static inline uint16_t hz_file_write_out(hz_core *core, const hz_file *file, const hz_fixed *asked)
 {
     uint8_t is_still_dirty = 0;
@@ -128,11 +159,13 @@ static inline uint16_t hz_file_write_out(hz_core *core, const hz_file *file, con
     int why = errno;
     uint16_t number = hz_write_end(core, &asked->grant, is_good, &is_still_dirty);
     errno = why;
+    if (number == HZ_DONE && !is_good)
+        number = HZ_WRITE_FAILED;
     return number;
 }
 
 /* Fixes a page: asked->grant is then a pass for it. Pages that have to go out first are written, and the page is read
- * if it is away. Refused: as hz_fix; 17, 18, 19 and 22 as the two calls above. No ticket of it is out afterwards. */
+ * if it is away. Refused: as hz_fix, and as the two calls above. No ticket of it is out afterwards. */
 static inline uint16_t hz_file_fix(hz_core *core, const hz_file *file, uint8_t client, uint64_t page, hz_fixed *asked)
 {
     for (;;) {
@@ -148,7 +181,7 @@ static inline uint16_t hz_file_fix(hz_core *core, const hz_file *file, uint8_t c
 }
 
 /* Writes a page out if it is unsaved. What was written is on the device only after hz_file_sync. Refused: as hz_flush,
- * and 18. No ticket of it is out afterwards. */
+ * and HZ_WRITE_FAILED. No ticket of it is out afterwards. */
 static inline uint16_t hz_file_flush(hz_core *core, const hz_file *file, uint8_t client, uint64_t page, hz_fixed *asked)
 {
     uint16_t number = hz_flush(core, client, page, hz_file_image(file), file->page_size, asked);

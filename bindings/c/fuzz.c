@@ -272,15 +272,16 @@ static void try_read_failed(void)
     hz_grant ticket = *held = a_grant(&m.reads);
     bool is_wrong_page = one_in(2);
     uint16_t number = noted(hz_read_failed(h.core, UNLESS(1, held), is_wrong_page)), wanted = early(h, false);
-    if (!wanted && is_out(&m.reads, &ticket)) {
-        wanted = is_wrong_page ? HZ_WRONG_PAGE : HZ_READ_FAILED;
+    if (!wanted && !is_out(&m.reads, &ticket))
+        wanted = HZ_UNKNOWN_TICKET;
+    if (!wanted) {
         m.pages[ticket.page].is_reading = false;
         m.entries++;
         m.counted.failed++;
         stale = ticket;
         take_back(&m.reads, &ticket);
     }
-    SAME(wanted ? wanted : HZ_UNKNOWN_TICKET, number);
+    SAME(wanted, number);
 }
 
 /* Ends a write-out in the model, and returns is_still_dirty. */
@@ -297,7 +298,7 @@ static uint8_t model_write_end(const hz_grant *ticket, bool is_good)
     ++*(is_good ? &m.counted.writes : &m.counted.failed);
     stale = *ticket;
     take_back(&m.writes, ticket);
-    return is_good ? page->is_unsaved : ODD;
+    return !is_good || page->is_unsaved;
 }
 
 static void try_write_end(void)
@@ -309,9 +310,9 @@ static void try_write_end(void)
     uint16_t number = noted(hz_write_end(h.core, UNLESS(1, held), is_good, UNLESS(2, flag)));
     uint16_t wanted = early(h, false);
     uint8_t wanted_dirty = ODD;
+    if (!wanted && !is_out(&m.writes, &ticket))
+        wanted = HZ_UNKNOWN_TICKET;
     if (!wanted)
-        wanted = !is_out(&m.writes, &ticket) ? HZ_UNKNOWN_TICKET : is_good ? 0 : HZ_WRITE_FAILED;
-    if (wanted == 0 || wanted == HZ_WRITE_FAILED)
         wanted_dirty = model_write_end(&ticket, is_good);
     SAME(wanted, number);
     SAME(wanted_dirty, *flag);
@@ -752,11 +753,11 @@ int LLVMFuzzerTestOneInput(const uint8_t *bytes, size_t len)
 }
 #else
 
-/* Checks that each number came, and each kind, except for 22, which needs memory that is full; and that each call that
- * must leave lent pages in place came while some were lent. */
+/* Checks that each number came, and each kind, except for 22, which needs memory that is full, and for 17, 18 and 19,
+ * which are answers of hz_file.h; and that each call that must leave lent pages in place came while some were lent. */
 static void look_whether_all_came(void)
 {
-    static const uint8_t numbers[] = {0, 1, 2, 11, 12, 13, 14, 16, 17, 18, 19, 20, 21, 41, 45, 50, 51, 52};
+    static const uint8_t numbers[] = {0, 1, 2, 11, 12, 13, 14, 16, 20, 21, 41, 45, 50, 51, 52};
     for (size_t i = 0; i < sizeof numbers; i++) {
         SAME(true, came[numbers[i]] > 0);
         printf("%u: %lu%s", numbers[i], (unsigned long)came[numbers[i]], i + 1 < sizeof numbers ? ", " : "\n");

@@ -1,7 +1,8 @@
 /* The calls of the header, as C makes them. Each refuses a null pointer, and else makes the proved call of its name.
  * Where two structs of the caller's may be one, it passes its own. A length beyond the largest page it passes as one
- * byte more than that, which the proved call refuses. The proved calls are those of crates/hojzmated_c, whose names
- * begin with proved_.
+ * byte more than that, which the proved call refuses. Where a device failed, the proved call that ends the ticket
+ * answers how; here it has done what was asked, and answers 0. The proved calls are those of crates/hojzmated_c, whose
+ * names begin with proved_. Those that only tell take the core as const here, and leave it as it is.
  *
  * This file is tested, by fuzz.c and peers/c/refusals.c, and not proved.
  */
@@ -81,7 +82,8 @@ uint16_t hz_read_failed(hz_core *core, const hz_grant *ticket, bool is_wrong_pag
     if (!core || !ticket)
         return HZ_NULL;
     hz_grant own = *ticket;
-    return proved_hz_read_failed(core, &own, is_wrong_page);
+    uint16_t number = proved_hz_read_failed(core, &own, is_wrong_page);
+    return number == (is_wrong_page ? HZ_WRONG_PAGE : HZ_READ_FAILED) ? HZ_DONE : number;
 }
 
 uint16_t hz_write_end(hz_core *core, const hz_grant *ticket, bool is_good, uint8_t *is_still_dirty)
@@ -91,6 +93,10 @@ uint16_t hz_write_end(hz_core *core, const hz_grant *ticket, bool is_good, uint8
     hz_grant own = *ticket;
     uint8_t still = *is_still_dirty;
     uint16_t number = proved_hz_write_end(core, &own, is_good, &still);
+    if (!is_good && number == HZ_WRITE_FAILED) {
+        still = 1;
+        number = HZ_DONE;
+    }
     *is_still_dirty = still;
     return number;
 }
@@ -109,7 +115,7 @@ uint16_t hz_read(hz_core *core, const hz_grant *pass, size_t offset, uint8_t *in
     return proved_hz_read(core, pass, offset, into ? into : &nowhere, length_of(len));
 }
 
-uint16_t hz_page(hz_core *core, const hz_grant *pass, const uint8_t **bytes)
+uint16_t hz_page(const hz_core *core, const hz_grant *pass, const uint8_t **bytes)
 {
     if (!core || !pass || !bytes)
         return HZ_NULL;
@@ -154,7 +160,7 @@ uint16_t hz_purge(hz_core *core, uint8_t client, uint64_t *count)
     return number;
 }
 
-uint16_t hz_page_lsn(hz_core *core, const hz_grant *pass, uint64_t *lsn)
+uint16_t hz_page_lsn(const hz_core *core, const hz_grant *pass, uint64_t *lsn)
 {
     if (!core || !pass || !lsn)
         return HZ_NULL;
@@ -164,12 +170,12 @@ uint16_t hz_page_lsn(hz_core *core, const hz_grant *pass, uint64_t *lsn)
     return number;
 }
 
-uint16_t hz_next_unsaved(hz_core *core, uint64_t from, hz_unsaved *out)
+uint16_t hz_next_unsaved(const hz_core *core, uint64_t from, hz_unsaved *out)
 {
     return core && out ? proved_hz_next_unsaved(core, from, out) : HZ_NULL;
 }
 
-uint16_t hz_victim(hz_core *core, uint64_t *page, uint8_t *has_page)
+uint16_t hz_victim(const hz_core *core, uint64_t *page, uint8_t *has_page)
 {
     if (!core || !page || !has_page)
         return HZ_NULL;
@@ -181,7 +187,7 @@ uint16_t hz_victim(hz_core *core, uint64_t *page, uint8_t *has_page)
     return number;
 }
 
-uint16_t hz_redo_from(hz_core *core, uint64_t *lsn, uint8_t *has_lsn)
+uint16_t hz_redo_from(const hz_core *core, uint64_t *lsn, uint8_t *has_lsn)
 {
     if (!core || !lsn || !has_lsn)
         return HZ_NULL;
@@ -193,12 +199,12 @@ uint16_t hz_redo_from(hz_core *core, uint64_t *lsn, uint8_t *has_lsn)
     return number;
 }
 
-uint16_t hz_stats_of(hz_core *core, hz_stats *out)
+uint16_t hz_stats_of(const hz_core *core, hz_stats *out)
 {
     return core && out ? proved_hz_stats_of(core, out) : HZ_NULL;
 }
 
-uint16_t hz_is_resident(hz_core *core, uint64_t page, uint8_t *is_resident)
+uint16_t hz_is_resident(const hz_core *core, uint64_t page, uint8_t *is_resident)
 {
     return core && is_resident ? proved_hz_is_resident(core, page, is_resident) : HZ_NULL;
 }

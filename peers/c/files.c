@@ -82,7 +82,7 @@ static void found_wrong(int line, const char *what, unsigned long long wanted, u
     } while (0)
 
 static uint8_t slot[HZ_FILE_HEAD + SIZE];
-static hz_file file = {.page_size = SIZE, .slot = slot};
+static hz_file file;
 static hz_core core;
 static hz_fixed asked;
 
@@ -90,8 +90,8 @@ static hz_fixed asked;
 static void start(int format, uint64_t pages)
 {
     const hz_config config = {.pages = PAGES, .page_size = SIZE, .frames = 1, .room = 1000, .k = 1, .clients = 1};
-    file.format = format;
-    file.fd = open("files.pages", O_RDWR | O_CREAT | O_TRUNC, 0600);
+    int fd = open("files.pages", O_RDWR | O_CREAT | O_TRUNC, 0600);
+    SAME(0, hz_file_init(&file, fd, format, SIZE, slot, sizeof slot));
     SAME(0, hz_file_fill(&file, pages));
     SAME(0, hz_core_new(&config, &core));
 }
@@ -230,8 +230,32 @@ static void refused_memory(void)
     SAME(true, refusals >= 2);
 }
 
+/* What hz_file_init refuses, in its order, and that the file stays as it was. */
+static void wrong_files(void)
+{
+    uint8_t largest[HZ_FILE_HEAD + 65536];
+    hz_file some, before;
+    memset(&some, 0xa5, sizeof some);
+    before = some;
+    SAME(HZ_NULL, hz_file_init(NULL, 3, 1, 20, slot, 0));
+    SAME(HZ_NULL, hz_file_init(&some, 3, 1, 20, NULL, 0));
+    SAME(HZ_BAD_GEOMETRY, hz_file_init(&some, 3, 0, 0, slot, 0));
+    SAME(HZ_BAD_GEOMETRY, hz_file_init(&some, 3, 1, 20, slot, sizeof slot));
+    SAME(HZ_BAD_GEOMETRY, hz_file_init(&some, 3, 1, 65552, largest, sizeof largest));
+    SAME(HZ_BAD_SETTINGS, hz_file_init(&some, 3, 0, SIZE, slot, 0));
+    SAME(HZ_BAD_SETTINGS, hz_file_init(&some, 3, 3, SIZE, slot, sizeof slot));
+    SAME(HZ_OUT_OF_PAGE, hz_file_init(&some, 3, 1, SIZE, slot, sizeof slot - 1));
+    SAME(0, memcmp(&some, &before, sizeof some));
+    SAME(0, hz_file_init(&some, 3, 2, 65536, largest, sizeof largest));
+    SAME(3, some.fd);
+    SAME(2, some.format);
+    SAME(65536, some.page_size);
+    SAME((uintptr_t)largest + HZ_FILE_HEAD, (uintptr_t)hz_file_image(&some));
+}
+
 int main(void)
 {
+    wrong_files();
     for (int round = 0; round < 4; round++) {
         at_most = round % 2 ? 1 : ALL;
         interrupts = round / 2;

@@ -10,13 +10,19 @@ enum { PAGES = 100, SIZE = 4096 };
 int main(void)
 {
     static uint8_t slot[HZ_FILE_HEAD + SIZE];
-    const hz_config config = {PAGES, SIZE, 8, (size_t)1 << 61, 1, 1000, 2, 1}; /* 8 frames, period 1, K 2 */
+    static hz_config config;
     static hz_core core; /* all zero: none yet */
+    hz_file file;
     hz_fixed asked;
     const uint8_t *bytes;
     uint64_t count = 0;
-    hz_file file = {open("least.pages", O_RDWR | O_CREAT, 0600), 2, SIZE, slot};
-    uint16_t number = lseek(file.fd, 0, SEEK_END) == 0 ? hz_file_fill(&file, PAGES) : 0;
+    int fd = open("least.pages", O_RDWR | O_CREAT, 0600);
+    uint16_t number = hz_file_init(&file, fd, 2, SIZE, slot, sizeof slot);
+    if (!number && lseek(fd, 0, SEEK_END) == 0)
+        number = hz_file_fill(&file, PAGES);
+    config.pages = PAGES, config.page_size = SIZE, config.frames = 8;
+    config.room = (size_t)1 << 61, config.clients = 1;
+    config.k = 2, config.correlated = 1, config.retained = 1000;
     if (!number)
         number = hz_core_new(&config, &core);
     for (uint64_t page = 0; page < PAGES && !number; page++) {
@@ -35,7 +41,8 @@ int main(void)
     if (!number)
         number = hz_file_sync(&file);
     uint8_t text[96];
-    printf("%.*s: the last page counts %lu\n", (int)hz_text(number, text, sizeof text), (char *)text, count);
+    printf("%.*s: the last page counts %llu\n", (int)hz_text(number, text, sizeof text), (char *)text,
+           (unsigned long long)count);
     hz_core_free(&core);
     return number != 0;
 }

@@ -421,11 +421,11 @@ static hz_grant loads(void)
     CALL(HZ_BUSY, hz_fix(&core, 1, 3, image, SIZE, &out));
     GAVE(0, 1, 3, 0, 0, 0, 0);
     CALL(HZ_BUSY, hz_flush(&core, 1, 3, image, SIZE, &out));
-    CALL(HZ_READ_FAILED, hz_read_failed(&core, &ticket, false));
+    CALL(HZ_DONE, hz_read_failed(&core, &ticket, false));
     CALL(HZ_UNKNOWN_TICKET, hz_read_failed(&core, &ticket, false));
     CALL(HZ_DONE, hz_fix(&core, 0, 3, image, SIZE, &out));
     GAVE(HZ_LOAD, 0, 3, 1, 0, 0, 0);
-    CALL(HZ_WRONG_PAGE, hz_read_failed(&core, &out.grant, true));
+    CALL(HZ_DONE, hz_read_failed(&core, &out.grant, true));
     CALL(HZ_DONE, hz_fix(&core, 0, 3, image, SIZE, &out));
     GAVE(HZ_LOAD, 0, 3, 2, 0, 0, 0);
     SAME(true, is_filled(image, SIZE, ODD));
@@ -495,8 +495,12 @@ static void flushes(const hz_grant *pass)
     is_unsaved(3, 7, 7);
     CALL(HZ_UNKNOWN_TICKET, hz_read_end(&core, &ticket, image, SIZE, &none));
     CALL(HZ_BUSY, hz_flush(&core, 0, 3, image, SIZE, &out));
-    CALL(HZ_WRITE_FAILED, hz_write_end(&core, &ticket, false, &dirty));
+    SAME(ODD, dirty);
+    CALL(HZ_DONE, hz_write_end(&core, &ticket, false, &dirty));
+    SAME(1, dirty);
+    dirty = ODD;
     CALL(HZ_UNKNOWN_TICKET, hz_write_end(&core, &ticket, true, &dirty));
+    CALL(HZ_UNKNOWN_TICKET, hz_write_end(&core, &ticket, false, &dirty));
     SAME(ODD, dirty);
     CALL(HZ_DONE, hz_flush(&core, 1, 3, image, SIZE, &out));
     GAVE(HZ_WRITE_FIRST, 1, 3, 4, 7, 0, 0);

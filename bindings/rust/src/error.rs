@@ -4,7 +4,7 @@ use std::fmt;
 use std::result;
 
 /// A refusal of a [`Pool`](crate::Pool). It changes nothing, except that 11, 12 and 13 count as
-/// calls, and 17, 18 and 19 end the ticket.
+/// calls. 17, 18 and 19 tell of the device, and come of a pager's faults alone.
 ///
 /// It is the error of calls that do not use the device: those of a `Pool` and of guards, and those
 /// that make a pager. A call of a [`Pager`](crate::Pager) or a

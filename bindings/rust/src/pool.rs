@@ -378,20 +378,14 @@ impl Pool {
         ticket: ReadTicket,
         fault: &ReadFault,
     ) -> Result<(), Refused<ReadTicket>> {
-        let (is_wrong_page, wanted) = match fault {
-            ReadFault::WrongPage => (true, Error::WrongPage),
-            ReadFault::Device(_) => (false, Error::ReadFailed),
-        };
+        let is_wrong_page = matches!(fault, ReadFault::WrongPage);
         let told = self
             .own(&ticket.grant, Error::UnknownTicket)
             .and_then(|grant| {
                 // SAFETY: the handle is free, and the ticket a grant.
                 Error::check(unsafe { sys::hz_read_failed(self.core(), &grant, is_wrong_page) })
             });
-        match Refused::check(told, ticket) {
-            Err(it) if it.error == wanted => Ok(()),
-            other => other,
-        }
+        Refused::check(told, ticket)
     }
 
     /// Ends a write-out that succeeded.
@@ -409,10 +403,7 @@ impl Pool {
     /// [`UnknownTicket`](Error::UnknownTicket) for a ticket of another pool, which comes back.
     pub fn fail_write(&self, ticket: WriteTicket) -> Result<(), Refused<WriteTicket>> {
         let told = self.write_end(&ticket, false).map(drop);
-        match Refused::check(told, ticket) {
-            Err(it) if it.error == Error::WriteFailed => Ok(()),
-            other => other,
-        }
+        Refused::check(told, ticket)
     }
 
     fn write_end(&self, ticket: &WriteTicket, is_good: bool) -> Result<Saved> {
