@@ -1,5 +1,6 @@
 /* Operations a second over this pool, or over the memory pool of Berkeley DB, by one program: the same pages in the
- * same order. Built with -DBERKELEY it runs over the second. bench.py builds both and runs them in turn.
+ * same order. Built with -DPAGER it runs over the pager for many threads, and with -DBERKELEY over Berkeley DB.
+ * bench.py builds them and runs them in turn.
  *
  *     peers/c/bench USE SIZE SECONDS [THREADS]
  *
@@ -20,8 +21,8 @@
  * it operates eight times for each frame, so that the pool is in its steady state. It ends where an update leaves its
  * page clean, or where pages leave that are not written out.
  *
- * THREADS threads operate at once, or one. More than one there are over Berkeley DB alone: a core of this pool has one
- * owner. bindings/rust/examples/bench_shared.rs has more over this pool.
+ * THREADS threads operate at once, or one. A core has one owner, so more than one there are over the others alone.
+ * bindings/rust/examples/bench_shared.rs does the same through Rust.
  *
  * Printed: operations a second of the wall clock, over all threads, and the hit rate; K and the period of this pool.
  */
@@ -73,7 +74,7 @@ static void fill(unsigned page, uint8_t *image);
 static DB_ENV *env;
 static DB_MPOOLFILE *mpool;
 static _Thread_local uint8_t *fixed;
-static const bool is_peer = true;
+static const bool is_peer = true, has_threads = true;
 
 /* The library's own way to write to a page, which it exports and db.h does not have: the page is dirty then, and its
  * latch exclusive. With DB_MPOOL_DIRTY memp_fget does neither for a page that the file has (5.3.28). The page may be at
@@ -147,13 +148,76 @@ static struct counts counted(void)
     return counts;
 }
 #else
+
+/* Makes the file anew, and returns its descriptor. */
+static int filled_file(void)
+{
+    uint8_t *image = malloc(size);
+    int file = open("bench.pages", O_RDWR | O_CREAT | O_TRUNC, 0600);
+    if (file < 0 || !image)
+        fail("the file");
+    for (unsigned page = 0; page < pages; page++) {
+        fill(page, image);
+        if (pwrite(file, image, size, (off_t)page * size) != (ssize_t)size)
+            fail("pwrite");
+    }
+    free(image);
+    return file;
+}
+
+#ifdef PAGER
+#include "hojzmated_pager.h"
+
+static hz_pager pager;
+static _Thread_local hz_ref fixed;
+static const bool is_peer = false, has_threads = true;
+
+static void fix(uint64_t page)
+{
+    if (hz_pager_fix(&pager, page, has_updates() ? HZ_EXCLUSIVE : HZ_SHARED, &fixed))
+        fail("fix");
+}
+
+static const uint8_t *look(void)
+{
+    return fixed.bytes;
+}
+
+static void update(uint64_t with)
+{
+    if (hz_pager_put(&fixed, PLACE, (uint8_t *)&with, sizeof with, 1))
+        fail("put");
+}
+
+static void unfix(void)
+{
+    if (hz_pager_unfix(&fixed))
+        fail("unfix");
+}
+
+static void start(void)
+{
+    hz_pager_config config = {.pages = pages, .page_size = size, .frames = frames,
+                              .correlated = period ? period : HZ_NO_PERIOD, .k = (uint8_t)k};
+    if (hz_pager_new_file(&config, filled_file(), 1, &pager))
+        fail("the pager");
+}
+
+static struct counts counted(void)
+{
+    hz_pager_stats stats;
+    if (hz_pager_stats_of(&pager, &stats))
+        fail("stats");
+    return (struct counts){stats.hits, stats.faults, stats.writes, stats.unsaved};
+}
+#else
 #include "hojzmated.h"
 
 static hz_core core;
 static int file;
 static uint8_t *image;
 static hz_fixed asked;
-static const bool is_peer = false;
+static const bool is_peer = false, has_threads = false;
 
 /* Writes out the page that has to make way. */
 static void write_out(void)
@@ -208,15 +272,10 @@ static void start(void)
 {
     hz_config config = {.pages = pages, .page_size = size, .frames = frames, .room = (size_t)1 << 61,
                         .correlated = period, .retained = (uint64_t)1 << 62, .k = (uint8_t)k, .clients = 1};
-    file = open("bench.pages", O_RDWR | O_CREAT | O_TRUNC, 0600);
+    file = filled_file();
     image = malloc(size);
-    if (file < 0 || !image || hz_core_new(&config, &core) || hz_mark(&core, 0, 1))
+    if (!image || hz_core_new(&config, &core) || hz_mark(&core, 0, 1))
         fail("the pool");
-    for (unsigned page = 0; page < pages; page++) {
-        fill(page, image);
-        if (pwrite(file, image, size, (off_t)page * size) != (ssize_t)size)
-            fail("pwrite");
-    }
 }
 
 static struct counts counted(void)
@@ -226,6 +285,7 @@ static struct counts counted(void)
         fail("stats");
     return (struct counts){stats.hits, stats.faults, stats.writes, stats.unsaved};
 }
+#endif
 #endif
 
 /* --- The tree: a root, full inner nodes, as many as there is room for, and full leaves, by even keys. A node has its
@@ -401,7 +461,7 @@ int main(int argc, char **argv)
     if (use == USES || size % 16 != 0 || size < 128 || size > 65536)
         fail("USE SIZE SECONDS [THREADS]");
     int threads = argc == 5 ? atoi(argv[4]) : 1;
-    if (threads < 1 || threads > (is_peer ? MOST_THREADS : 1))
+    if (threads < 1 || threads > (has_threads ? MOST_THREADS : 1))
         fail("so many threads do not share the pool");
     frames = asked_for("FRAMES", frames), k = (unsigned)asked_for("K", 2), period = asked_for("PERIOD", frames / 8);
     if (frames < 256 || frames > 65536)

@@ -17,8 +17,8 @@ its steady state: eight operations for each frame come before those that count.
 With FRAMES in the environment, 256 to 65,536, the pools have so many in place of 4,096, and pages are of 4,096 bytes
 alone; with K they have another K.
 
-With `threads` it measures the pager that many threads share, bindings/rust/examples/bench_shared.rs, in pages of 4,096
-bytes and with 1, 2 and 4 threads. It has 4,096 frames. Beside it is peers/c/bench.c with Berkeley DB, and for look-ups
+With `threads` it measures the pager that many threads share, through Rust by bindings/rust/examples/bench_shared.rs and
+through C by peers/c/bench.c, in pages of 4,096 bytes and with 1, 2 and 4 threads. It has 4,096 frames. Beside it is peers/c/bench.c with Berkeley DB, and for look-ups
 in a tree also LMDB, by peers/c/lmdb.c. The operations are those of all threads.
 
 What stands on cargo, Berkeley DB or LMDB is left out where that is not there. The library comes of the proved one of
@@ -77,7 +77,10 @@ class Shared:
 
     @staticmethod
     def benches(folder, prefix):
-        return {SHARED: example(folder, prefix, "bench_shared"), PEER: peer(folder),
+        pager = f"{prefix}/lib/libhojzmated_pager.a"
+        linked = "-DPAGER", f"-I{prefix}/include", pager
+        in_c = compiled(f"{folder}/pager", "bench.c", *linked) if os.path.exists(pager) else None
+        return {SHARED: example(folder, prefix, "bench_shared"), C: in_c, PEER: peer(folder),
                 LMDB: compiled(f"{folder}/lmdb", "lmdb.c", "-llmdb", is_needed=False)}
 
     @staticmethod

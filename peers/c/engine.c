@@ -1,207 +1,250 @@
-/* A little engine over pools side by side: four threads add to counters that stand in pages of a file. Page p is in
- * part p mod 4, which is a core with a mutex of its own. Each call on the core goes under that mutex, which is open
- * while the device and the log work. A thread that has to wait sleeps until some work of the part is done. The engine
- * ends with status 0 where every count is in the file.
+/* An engine over the pager for many threads: counters in pages, a write-ahead log, checkpoints, a checksum in each
+ * page. Eight threads add to counters of two pages at a time, under one log record. Wherever it is killed, the next
+ * run has both additions of each record or none, and each that was acknowledged. check/kills kills it.
  *
- *     check/bindings        builds it with the library, as it is and under the sanitizers, and runs it
+ *     engine FOLDER SECONDS     makes the files or redoes the log, prints "ready", and adds for so long
+ *
+ * A page that a loss of power tore is found by its checksum, and not mended: bindings/rust/examples/ledger does that.
  */
-#include "hojzmated.h"
+#define _POSIX_C_SOURCE 200809L
+#include "hojzmated_pager.h"
+#include <errno.h>
 #include <fcntl.h>
 #include <pthread.h>
 #include <stdatomic.h>
 #include <stdio.h>
 #include <stdlib.h>
 #include <string.h>
+#include <time.h>
 #include <unistd.h>
 
-enum { PARTS = 4, PART_PAGES = 16, PART_FRAMES = 2, PAGES = PARTS * PART_PAGES };
-enum { SIZE = 256, WORDS = SIZE / 8, THREADS = 4, ROUNDS = 5000 };
+enum { PAGES = 2000, SIZE = 4096, FRAMES = 256, THREADS = 8 };
 
-struct part {
-    _Alignas(128) hz_core core; /* parts share no line of the cache */
-    pthread_mutex_t lock;
-    pthread_cond_t worked;       /* the device or the log has done what a thread of this part wanted */
-    unsigned at_work;            /* how many threads are at the device or the log, with the mutex open */
-    uint64_t number;             /* page p of the core is page p * PARTS + number of the file */
-    uint64_t newest[PART_PAGES]; /* the LSN of the newest write of each page, which is its first word */
+/* What stands in a page: how often each thread has added. Sum and LSN are put there as the page goes out. */
+struct page {
+    uint64_t sum, lsn, counts[THREADS];
 };
 
-static struct part parts[PARTS];
-static int file;
-static atomic_ulong log_end, durable; /* the LSN of the newest log record, and as far as which the log is durable */
+/* Records lie in no two sectors of a disk. The LSN is where the record ends in the log. In the log's first place is the
+ * head, which has from where to redo as its LSN. */
+struct record {
+    uint64_t sum, lsn, thread, pages[2], counts[2], spare;
+};
 
-/* The engine ends where it finds something else than it wants. */
-static void want(uint64_t wanted, uint64_t found, const char *what)
+static struct {
+    int fd;
+    atomic_uint_fast64_t end; /* all before it is written */
+    uint64_t durable;
+    pthread_mutex_t lock; /* from a record to its puts: so each record before `end` is in its pages */
+    pthread_mutex_t syncing;
+} wal = {.lock = PTHREAD_MUTEX_INITIALIZER, .syncing = PTHREAD_MUTEX_INITIALIZER};
+
+static hz_pager pager;
+static int pages_fd, acks_fd;
+static atomic_bool is_over;
+
+static _Noreturn void fail(const char *what, const char *why)
 {
-    if (found == wanted)
-        return;
-    fprintf(stderr, "engine: %s: %lu\n", what, found);
-    exit(1);
+    fprintf(stderr, "engine: %s: %s\n", what, why);
+    _exit(1);
 }
 
-/* Opens the mutex for the device or the log: other threads call this core meanwhile. */
-static void begin_work(struct part *part)
+/* The engine ends where the pager refuses a call. */
+static void must(uint16_t number, const char *what)
 {
-    part->at_work++;
-    pthread_mutex_unlock(&part->lock);
+    char text[200];
+    hz_pager_text(text, sizeof text);
+    if (number != HZ_DONE)
+        fail(what, text);
 }
 
-/* Closes it again. Who waits comes when it is open next: by then the ticket of this work has its end. */
-static void end_work(struct part *part)
+/* A checksum of words and of the place where they stand. That of zeros is not 0. */
+static uint64_t sum_of(uint64_t place, const void *bytes, size_t size)
 {
-    pthread_mutex_lock(&part->lock);
-    part->at_work--;
-    pthread_cond_broadcast(&part->worked);
+    uint64_t word, sum = ~place;
+    for (size_t at = 0; at < size; at += 8) {
+        memcpy(&word, (const uint8_t *)bytes + at, 8);
+        sum = (sum ^ word) * 0x9e3779b97f4a7c15u;
+        sum ^= sum >> 32;
+    }
+    return sum;
 }
 
-/* Reads or writes a page, and tells whether that went well. */
-static bool device(struct part *part, bool is_write, uint64_t page, uint64_t *image)
+/* Moves all of some bytes between memory and a file. Returns 0 or an errno. */
+static int move_all(bool is_write, int fd, void *bytes, size_t size, uint64_t at)
 {
-    off_t at = (off_t)(page * PARTS + part->number) * SIZE;
-    begin_work(part);
-    ssize_t done = is_write ? pwrite(file, image, SIZE, at) : pread(file, image, SIZE, at);
-    end_work(part);
-    return done == SIZE;
+    for (size_t done = 0; done < size;) {
+        uint8_t *rest = (uint8_t *)bytes + done;
+        off_t place = (off_t)(at + done);
+        ssize_t moved = is_write ? pwrite(fd, rest, size - done, place) : pread(fd, rest, size - done, place);
+        if (moved == 0 || (moved < 0 && errno != EINTR))
+            return moved ? errno : EIO;
+        done += moved > 0 ? (size_t)moved : 0;
+    }
+    return 0;
 }
 
-/* Makes the log durable as far as an LSN, for all parts. A real log writes and syncs its file here. */
-static void reach_log(struct part *part, uint8_t client, uint64_t lsn)
+/* The device and the log, as the pager calls them. */
+static int read_page(void *fd, uint64_t number, uint8_t *image, size_t size)
 {
-    begin_work(part);
-    unsigned long reached = durable;
-    while (reached < lsn && !atomic_compare_exchange_weak(&durable, &reached, lsn))
-        ;
-    end_work(part);
-    want(0, hz_mark(&part->core, client, durable), "mark");
+    struct page page;
+    int error = move_all(false, *(int *)fd, image, size, number * size);
+    memcpy(&page, image, sizeof page);
+    if (error || (page.sum == 0 && page.lsn == 0)) /* a page that was never written */
+        return error;
+    return page.sum == sum_of(number, image + 8, size - 8) ? 0 : HZ_IO_WRONG_PAGE;
 }
 
-/* Waits where a page is being read, or where none can make way. Where no work is going on, pages are only too young. */
-static void wait_in(struct part *part, uint8_t client)
+static int write_page(void *fd, uint64_t number, uint8_t *image, size_t size, uint64_t lsn)
 {
-    want(0, hz_tick(&part->core, client, 1), "tick");
-    if (part->at_work > 0)
-        pthread_cond_wait(&part->worked, &part->lock);
+    memcpy(image + 8, &lsn, 8);
+    uint64_t sum = sum_of(number, image + 8, size - 8);
+    memcpy(image, &sum, 8);
+    return move_all(true, *(int *)fd, image, size, number * size);
 }
 
-/* Writes a page out. It is saved then, unless a thread wrote to it meanwhile. */
-static void write_out(struct part *part, const hz_fixed *asked, uint64_t *image)
+/* One thread syncs for all that wait meanwhile. */
+static int make_log_durable(void *fd, uint64_t lsn)
 {
-    uint8_t is_still_dirty = 2;
-    const uint64_t *newest = &part->newest[asked->grant.page];
-    want(*newest, asked->lsn, "the page LSN");
-    want(asked->lsn, image[0], "the LSN in the image");
-    want(true, asked->lsn <= durable, "an image ahead of the log");
-    bool is_good = device(part, true, asked->grant.page, image);
-    want(0, hz_write_end(&part->core, &asked->grant, is_good, &is_still_dirty), "write_end");
-    want(*newest != asked->lsn, is_still_dirty, "is_still_dirty");
+    int error = 0;
+    (void)fd; /* that of the pages */
+    pthread_mutex_lock(&wal.syncing);
+    if (wal.durable < lsn) {
+        uint64_t end = wal.end;
+        error = fdatasync(wal.fd) ? errno : 0;
+        if (!error)
+            hz_pager_mark(&pager, wal.durable = end);
+    }
+    pthread_mutex_unlock(&wal.syncing);
+    return error;
 }
 
-/* Asks for a page, or that it be written out, until the pool has neither to wait nor to write first. */
-static hz_fixed ask(struct part *part, bool is_flush, uint8_t client, uint64_t page, uint64_t *image)
+static int sync_pages(void *fd)
 {
-    hz_fixed asked = {0};
-    for (;;) {
-        unsigned number = (is_flush ? hz_flush : hz_fix)(&part->core, client, page, (uint8_t *)image, SIZE, &asked);
-        if (number == HZ_NEED_LOG) {
-            reach_log(part, client, asked.lsn);
-        } else if (number == HZ_BUSY || number == HZ_NO_VICTIM) {
-            wait_in(part, client);
-        } else {
-            want(0, number, "fix or flush");
-            if (asked.kind != HZ_WRITE_FIRST)
-                return asked;
-            write_out(part, &asked, image);
+    return fdatasync(*(int *)fd) ? errno : 0;
+}
+
+static void put_record(struct record *record, uint64_t at)
+{
+    record->sum = sum_of(at, (uint8_t *)record + 8, sizeof *record - 8);
+    if (move_all(true, wal.fd, record, sizeof *record, at))
+        fail("the log", strerror(errno));
+}
+
+/* Whether a whole record stands at a place. */
+static bool get_record(struct record *record, uint64_t at)
+{
+    return !move_all(false, wal.fd, record, sizeof *record, at)
+        && record->sum == sum_of(at, (uint8_t *)record + 8, sizeof *record - 8);
+}
+
+static void put_count(const hz_ref *page, const struct record *record, int i)
+{
+    size_t at = offsetof(struct page, counts) + 8 * record->thread;
+    must(hz_pager_put(page, at, (const uint8_t *)&record->counts[i], 8, record->lsn), "a put");
+}
+
+/* Opens the files, and redoes the log from where its head says. What follows the last whole record goes. */
+static void start(const char *folder)
+{
+    struct record record;
+    hz_ref page;
+    const hz_pager_config config = {.pages = PAGES, .page_size = SIZE, .frames = FRAMES};
+    const hz_io io = {&pages_fd, read_page, write_page, make_log_durable, sync_pages};
+    if (chdir(folder) || (pages_fd = open("pages", O_RDWR | O_CREAT, 0600)) < 0
+        || (wal.fd = open("log", O_RDWR | O_CREAT, 0600)) < 0 || (acks_fd = open("acks", O_RDWR | O_CREAT, 0600)) < 0
+        || ftruncate(pages_fd, (off_t)PAGES * SIZE))
+        fail(folder, strerror(errno));
+    must(hz_pager_new(&config, &io, &pager), "the pager");
+    wal.end = get_record(&record, 0) ? record.lsn : sizeof record;
+    while (get_record(&record, wal.end) && record.lsn == wal.end + sizeof record) {
+        wal.end = record.lsn; /* before its puts: a page may have to go out for the next one */
+        for (int i = 0; i < 2; i++) {
+            must(hz_pager_fix(&pager, record.pages[i], HZ_EXCLUSIVE, &page), "redo");
+            put_count(&page, &record, i); /* it may have this count already, or a later one */
+            must(hz_pager_unfix(&page), "redo");
         }
     }
+    if (ftruncate(wal.fd, (off_t)wal.end))
+        fail("the log", strerror(errno));
 }
 
-/* Adds one to the counter of a page, which is its second word. */
-static void add(struct part *part, uint8_t client, uint64_t page)
+/* Brings all pages to the device, and notes from where to redo at the next start: from the first record that is not
+ * there. If that note is lost, the one before serves. */
+static void checkpoint(void)
 {
-    uint64_t image[WORDS] = {0}, held[2], *newest = &part->newest[page];
-    const uint8_t *bytes = NULL;
-    hz_fixed asked = ask(part, false, client, page, image);
-    hz_grant pass = asked.grant;
-    if (asked.kind == HZ_LOAD) {
-        want(true, device(part, false, page, image), "the device");
-        want(*newest, image[0], "the LSN of a page that was read");
-        want(0, hz_read_end(&part->core, &asked.grant, (uint8_t *)image, SIZE, &pass), "read_end");
-    }
-    want(0, hz_page(&part->core, &pass, &bytes), "page");
-    memcpy(held, bytes, sizeof held);
-    want(*newest, held[0], "the LSN in the page");
-    held[0] = *newest = atomic_fetch_add(&log_end, 1) + 1;
-    held[1]++;
-    want(0, hz_write(&part->core, &pass, 0, (uint8_t *)held, sizeof held, *newest), "write");
-    want(0, hz_unfix(&part->core, &pass), "unfix");
-    want(0, hz_tick(&part->core, client, 1), "tick");
+    struct record head = {0};
+    uint64_t lsn;
+    uint8_t has_lsn;
+    pthread_mutex_lock(&wal.lock);
+    head.lsn = wal.end;
+    pthread_mutex_unlock(&wal.lock);
+    must(hz_pager_checkpoint(&pager, &lsn, &has_lsn), "a checkpoint");
+    if (has_lsn && lsn - sizeof head < head.lsn)
+        head.lsn = lsn - sizeof head;
+    put_record(&head, 0);
 }
 
-/* A thread: adds to many counters, and asks now and then that a page of the same part be written out. */
+/* Adds to the counters of a thread in two pages, and returns the LSN. Latches are taken in the order of the pages,
+ * so that no threads wait for each other. */
+static uint64_t add(uint64_t thread, uint64_t low, uint64_t high)
+{
+    struct record record = {.thread = thread, .pages = {low, high}};
+    hz_ref pages[2];
+    for (int i = 0; i < 2; i++) {
+        must(hz_pager_fix(&pager, record.pages[i], HZ_EXCLUSIVE, &pages[i]), "a page");
+        memcpy(&record.counts[i], pages[i].bytes + offsetof(struct page, counts) + 8 * thread, 8);
+        record.counts[i]++;
+    }
+    pthread_mutex_lock(&wal.lock);
+    record.lsn = wal.end + sizeof record;
+    put_record(&record, wal.end); /* first the record, and then the pages */
+    wal.end = record.lsn;
+    for (int i = 0; i < 2; i++)
+        put_count(&pages[i], &record, i);
+    pthread_mutex_unlock(&wal.lock);
+    for (int i = 0; i < 2; i++)
+        must(hz_pager_unfix(&pages[i]), "unfix");
+    return record.lsn;
+}
+
+/* Adds, and after each 16 times acknowledges them, once their records are durable. */
 static void *work(void *number)
 {
-    uint64_t state = (uintptr_t)number + 1, image[WORDS] = {0};
-    uint8_t client = (uint8_t)(uintptr_t)number;
-    for (int i = 0; i < ROUNDS; i++) {
-        state = state * 6364136223846793005u + 1442695040888963407u;
-        uint64_t page = (state >> 33) % PAGES;
-        struct part *part = &parts[page % PARTS];
-        pthread_mutex_lock(&part->lock);
-        add(part, client, page / PARTS);
-        if (i % 16 == 0)
-            ask(part, true, client, (state >> 43) % PART_PAGES, image);
-        pthread_mutex_unlock(&part->lock);
+    uint64_t thread = (uintptr_t)number, acknowledged = 0, lsn = 0, state = thread + (uint64_t)time(NULL);
+    move_all(false, acks_fd, &acknowledged, 8, 8 * thread); /* none at first */
+    while (!is_over) {
+        for (int i = 0; i < 16; i++) {
+            state = state * 6364136223846793005u + 1442695040888963407u;
+            uint64_t low = (state >> 33) % (PAGES - 1);
+            lsn = add(thread, low, low + 1 + (state >> 43) % (PAGES - 1 - low));
+        }
+        acknowledged += 16;
+        if (make_log_durable(NULL, lsn) || move_all(true, acks_fd, &acknowledged, 8, 8 * thread))
+            fail("an acknowledgement", strerror(errno));
     }
     return NULL;
 }
 
-static void start(void)
-{
-    const hz_config config = {.pages = PART_PAGES, .page_size = SIZE, .frames = PART_FRAMES, .room = (size_t)1 << 61,
-                              .correlated = 0, .retained = 100, .k = 2, .clients = THREADS};
-    file = open("engine.pages", O_RDWR | O_CREAT | O_TRUNC, 0600);
-    want(0, (uint64_t)ftruncate(file, PAGES * SIZE), "the file");
-    for (unsigned i = 0; i < PARTS; i++) {
-        parts[i].number = i;
-        want(0, (uint64_t)pthread_mutex_init(&parts[i].lock, NULL), "a mutex");
-        want(0, (uint64_t)pthread_cond_init(&parts[i].worked, NULL), "a condition");
-        want(0, hz_core_new(&config, &parts[i].core), "core_new");
-    }
-}
-
-/* Writes the pages of a part out, frees its core, and returns the sum of the counters in the file. */
-static uint64_t end(struct part *part, hz_stats *stats)
-{
-    uint64_t sum = 0, image[WORDS] = {0};
-    pthread_mutex_lock(&part->lock);
-    for (uint64_t page = 0; page < PART_PAGES; page++) {
-        ask(part, true, 0, page, image);
-        want(true, device(part, false, page, image), "the device");
-        sum += image[1];
-    }
-    want(0, hz_stats_of(&part->core, stats), "stats");
-    want(0, hz_core_free(&part->core), "core_free");
-    pthread_mutex_unlock(&part->lock);
-    return sum;
-}
-
-int main(void)
+int main(int count, char **words)
 {
     pthread_t threads[THREADS];
-    uint64_t counts = 0, fixes = 0;
-    start();
+    if (count != 3)
+        fail("usage", "engine FOLDER SECONDS");
+    start(words[1]);
+    puts("ready");
+    fflush(stdout);
     for (uintptr_t i = 0; i < THREADS; i++)
-        want(0, (uint64_t)pthread_create(&threads[i], NULL, work, (void *)i), "a thread");
-    for (int i = 0; i < THREADS; i++)
-        want(0, (uint64_t)pthread_join(threads[i], NULL), "the end of a thread");
-    for (int i = 0; i < PARTS; i++) {
-        hz_stats stats;
-        counts += end(&parts[i], &stats);
-        fixes += stats.hits + stats.faults;
-        printf("part %d: hits %lu, faults %lu, evictions %lu, writes %lu\n", i, stats.hits, stats.faults,
-               stats.evictions, stats.writes);
+        if (pthread_create(&threads[i], NULL, work, (void *)i))
+            fail("a thread", "it could not be made");
+    for (double seconds = atof(words[2]); seconds > 0; seconds -= 0.1) {
+        nanosleep(&(struct timespec){.tv_nsec = 100000000}, NULL);
+        checkpoint();
     }
-    want(THREADS * ROUNDS, counts, "the counts");
-    want(THREADS * ROUNDS, fixes, "hits and faults");
+    is_over = true;
+    for (int i = 0; i < THREADS; i++)
+        pthread_join(threads[i], NULL);
+    checkpoint();
+    must(hz_pager_free(&pager), "the end");
     return 0;
 }

@@ -83,11 +83,21 @@ impl SharedConfig {
         let parts = power_below(useful).max(wanted.min(MOST_PARTS).next_power_of_two());
         let even = power_below(possible);
         let most = if wanted > even { possible } else { even };
+        SharedConfig::with_parts(pages, page_size, frames, parts.min(most))
+    }
+
+    /// The same with so many parts: it does not ask the system for the number of processors.
+    pub const fn with_parts(
+        pages: u64,
+        page_size: usize,
+        frames: usize,
+        parts: usize,
+    ) -> SharedConfig {
         SharedConfig {
             pages,
             page_size,
             frames,
-            parts: parts.min(most),
+            parts,
             correlated: frames as u64 / 8,
             tells_each_pin: false,
             retained: 1 << 62,

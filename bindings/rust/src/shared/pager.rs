@@ -333,6 +333,16 @@ impl<F: PageIo> SharedPager<F> {
         self.pinned(part, own, WAITING)
     }
 
+    /// Pins a page, without waiting for a pin of another thread.
+    ///
+    /// # Errors
+    /// Those of [`SharedPager::try_read`].
+    #[inline]
+    pub fn try_pin(&self, page: u64) -> Result<PagePin<'_>, PagerError> {
+        let (part, own) = self.place(page)?;
+        self.pinned(part, own, NOT_WAITING)
+    }
+
     /// Returns a page that was never written under its exclusive latch: its bytes are zeros, and it
     /// is not read. If it is in a frame, it is as it is there.
     ///

@@ -30,6 +30,10 @@ fn calls_that_do_not_wait() {
     page.put(0, &[7], 1).unwrap();
     drop(page);
     assert_eq!(pager.try_read(3).unwrap().unwrap()[0], 7);
+    // A pin needs no latch.
+    let page = pager.write(3).unwrap();
+    assert_eq!(pager.try_pin(3).unwrap().page(), 3);
+    drop(page);
     assert_eq!(pager.io().asked(), [Asked::Read(3)]);
 }
 
@@ -195,6 +199,14 @@ fn defaults() {
         let made = SharedPager::new(&config, Device::default()).map(drop);
         assert_eq!(made, Ok(()), "{config:?}");
     }
+    let given = SharedConfig::with_parts(100, 4096, 50, 7);
+    assert_eq!(
+        SharedConfig {
+            parts: 7,
+            ..SharedConfig::new(100, 4096, 50)
+        },
+        given
+    );
     let config = SharedConfig::new(100, 4096, 50);
     assert_eq!((config.parts, config.correlated, config.k), (1, 6, 2));
     assert_eq!(config.pin_wait, Duration::from_secs(10));

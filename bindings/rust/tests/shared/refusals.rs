@@ -21,10 +21,11 @@ fn page_that_the_file_has_not() {
             refusal(pager.write(page)),
             refusal(pager.try_write(page)),
             refusal(pager.pin(page)),
+            refusal(pager.try_pin(page)),
             refusal(pager.new_page(page)),
             refusal(pager.flush(page)),
         ];
-        assert_eq!(told, [Some(Error::OutOfPage); 7]);
+        assert_eq!(told, [Some(Error::OutOfPage); 8]);
         assert!(!pager.is_resident(page));
     }
     assert_eq!(pager.io().asked(), []);
@@ -130,6 +131,7 @@ fn pinned_frames() {
     let began = Instant::now();
     assert_eq!(refusal(pager.try_read(2)), Some(Error::NoVictim));
     assert_eq!(refusal(pager.try_write(2)), Some(Error::NoVictim));
+    assert_eq!(refusal(pager.try_pin(2)), Some(Error::NoVictim));
     assert!(began.elapsed() < pin_wait);
     assert_eq!(pager.stats().waits, 0);
     for told in [

@@ -1,0 +1,182 @@
+//! Refusals: how the faults of the pager become numbers, and what a thread was refused last.
+use crate::abi::*;
+use hojzmated::{Error, PagerError};
+use std::cell::Cell;
+use std::fmt;
+use std::io;
+
+thread_local! {
+    static NEWEST: Cell<hz_pager_fault> = const { Cell::new(NONE) };
+}
+
+const NONE: hz_pager_fault = hz_pager_fault {
+    page: 0,
+    lsn: 0,
+    error: 0,
+    number: 0,
+    has_page: 0,
+};
+
+/// The newest refusal of this thread.
+pub fn newest() -> hz_pager_fault {
+    NEWEST.get()
+}
+
+/// `EIO`, for a fault without a number of the system: the file ends within the page.
+const EIO: i32 = 5;
+
+fn errno_of(error: &io::Error) -> i32 {
+    error.raw_os_error().unwrap_or(EIO)
+}
+
+/// A refusal, of which this thread has noted what it was. It is a word, so that the results of calls
+/// stay in registers.
+#[derive(Clone, Copy)]
+pub struct Refusal(usize);
+
+impl Refusal {
+    pub fn number(self) -> u16 {
+        self.0 as u16
+    }
+}
+
+/// Notes a refusal with this number, and returns it.
+#[cold]
+#[inline(never)]
+pub fn refusal(number: u16) -> Refusal {
+    hz_pager_fault::of(number).note()
+}
+
+/// The same, of a page.
+#[cold]
+#[inline(never)]
+pub fn refusal_of(number: u16, page: u64) -> Refusal {
+    hz_pager_fault::of(number).at(page).note()
+}
+
+/// The refusal for what a call for a page came to, which may tell of another page.
+#[cold]
+#[inline(never)]
+pub fn refused_at(page: u64, error: impl Into<hz_pager_fault>) -> Refusal {
+    error.into().at(page).note()
+}
+
+impl hz_pager_fault {
+    const fn of(number: u16) -> hz_pager_fault {
+        hz_pager_fault { number, ..NONE }
+    }
+
+    pub fn of_error(number: u16, error: &io::Error) -> hz_pager_fault {
+        hz_pager_fault {
+            error: errno_of(error),
+            ..hz_pager_fault::of(number)
+        }
+    }
+
+    /// Adds a page, if the fault is not that of another one.
+    fn at(self, page: u64) -> hz_pager_fault {
+        match self.has_page {
+            0 => hz_pager_fault {
+                page,
+                has_page: 1,
+                ..self
+            },
+            _ => self,
+        }
+    }
+
+    /// Notes it as the newest of this thread.
+    pub fn note(self) -> Refusal {
+        NEWEST.set(self);
+        Refusal(self.number.into())
+    }
+}
+
+impl From<Error> for hz_pager_fault {
+    fn from(error: Error) -> hz_pager_fault {
+        let lsn = match error {
+            Error::NeedLog { lsn } => lsn,
+            _ => 0,
+        };
+        hz_pager_fault {
+            lsn,
+            ..hz_pager_fault::of(error.number())
+        }
+    }
+}
+
+impl From<PagerError> for hz_pager_fault {
+    fn from(error: PagerError) -> hz_pager_fault {
+        let of_error = hz_pager_fault::of_error;
+        match &error {
+            PagerError::Read { page, source } => of_error(HZ_READ_FAILED, source).at(*page),
+            PagerError::Write { page, source } => of_error(HZ_WRITE_FAILED, source).at(*page),
+            PagerError::WrongPage { page } => hz_pager_fault::of(HZ_WRONG_PAGE).at(*page),
+            PagerError::RefusedPage { page, error } => hz_pager_fault::from(*error).at(*page),
+            PagerError::Log { source, .. } => hz_pager_fault {
+                error: errno_of(source),
+                ..error.refusal().into()
+            },
+            PagerError::Sync { source } => of_error(HZ_SYNC_FAILED, source),
+            PagerError::SyncFailedBefore => hz_pager_fault::of(HZ_SYNC_FAILED),
+            other => other.refusal().into(),
+        }
+    }
+}
+
+impl From<Error> for Refusal {
+    #[cold]
+    fn from(error: Error) -> Refusal {
+        hz_pager_fault::from(error).note()
+    }
+}
+
+impl From<PagerError> for Refusal {
+    #[cold]
+    fn from(error: PagerError) -> Refusal {
+        hz_pager_fault::from(error).note()
+    }
+}
+
+/// The text of a refusal, by what it means here.
+fn text_of(number: u16) -> &'static str {
+    match number {
+        0 => "nothing was refused",
+        HZ_BAD_GEOMETRY => "the number of pages or the page size is out of its limits",
+        HZ_BAD_SETTINGS => "a setting is out of its limits",
+        HZ_NO_VICTIM => "all pages that could make way are pinned",
+        HZ_NEED_LOG => "the log could not be made durable",
+        HZ_BUSY => "a latch is not free, or a page is still fixed",
+        HZ_UNKNOWN_PASS => "this thread has not fixed the page, or has given it back",
+        HZ_READ_FAILED => "it could not be read",
+        HZ_WRITE_FAILED => "it could not be written",
+        HZ_WRONG_PAGE => "another page was found in its place, or a spoilt one",
+        HZ_OUT_OF_MEMORY => "out of memory",
+        HZ_OUT_OF_PAGE => "the file has no such page, or the bytes are not within the page",
+        HZ_NO_CORE => "the handle has no pager",
+        HZ_HAS_CORE => "the handle has a pager already",
+        HZ_NULL => "a pointer is null",
+        HZ_SYNC_FAILED => "the device could not be synced",
+        HZ_DEADLOCK => "the call would wait for a latch that this thread has",
+        HZ_NOT_EXCLUSIVE => "the page is not under its exclusive latch",
+        HZ_IN_CALLBACK => "a callback of the pager may not make this call",
+        HZ_PANICKED => "the library found a fault of its own",
+        _ => "a pool has come to the end of its calls or of its clock",
+    }
+}
+
+impl fmt::Display for hz_pager_fault {
+    fn fmt(&self, f: &mut fmt::Formatter<'_>) -> fmt::Result {
+        if self.has_page != 0 {
+            write!(f, "page {}: ", self.page)?;
+        }
+        f.write_str(text_of(self.number))?;
+        if self.lsn != 0 {
+            write!(f, " (LSN {})", self.lsn)?;
+        }
+        match self.error {
+            0 => Ok(()),
+            error => write!(f, ": {}", io::Error::from_raw_os_error(error)),
+        }
+    }
+}

@@ -1,0 +1,531 @@
+//! The pager of `hojzmated` that many threads share, for C: the calls of `hojzmated_pager.h`, which
+//! says what each does.
+//!
+//! Each call checks its pointers, makes the call of [`SharedPager`], and turns what comes of it into
+//! a number. No panic leaves it. What a thread has fixed is in [`held`].
+#![allow(non_camel_case_types)]
+// The header has what each call requires.
+#![allow(clippy::missing_safety_doc)]
+#![deny(unsafe_op_in_unsafe_fn)]
+#![warn(
+    clippy::undocumented_unsafe_blocks,
+    clippy::unwrap_used,
+    clippy::expect_used
+)]
+
+mod abi;
+mod device;
+mod fault;
+#[cfg(test)]
+#[allow(clippy::unwrap_used)]
+mod header;
+mod held;
+
+use abi::*;
+use device::{Callbacks, Device, PageFile, is_inside, with_scratch};
+use fault::{Refusal, refusal, refusal_of, refused_at};
+use held::Guard;
+use hojzmated::{Error, SharedConfig, SharedPager};
+use std::ffi::{c_char, c_int};
+use std::panic::{AssertUnwindSafe, catch_unwind};
+use std::time::Duration;
+use std::{ptr, slice};
+
+/// The pager behind a handle.
+pub type Pager = SharedPager<Device>;
+
+type Outcome<T = ()> = Result<T, Refusal>;
+
+/// Makes a call, and returns its number. Where it panics that is a refusal too.
+#[inline]
+fn answer(call: impl FnOnce() -> Outcome) -> u16 {
+    match catch_unwind(AssertUnwindSafe(call)) {
+        Ok(Ok(())) => 0,
+        Ok(Err(refused)) => refused.number(),
+        Err(_) => refusal(HZ_PANICKED).number(),
+    }
+}
+
+/// What a pointer of the caller's leads to.
+///
+/// # Safety
+/// It is null, or leads to a value that stays as it is.
+#[inline]
+unsafe fn given<'a, T>(pointer: *const T) -> Outcome<&'a T> {
+    // SAFETY: the caller says so.
+    unsafe { pointer.as_ref() }.ok_or_else(|| refusal(HZ_NULL))
+}
+
+/// Where a result goes.
+///
+/// # Safety
+/// It is null, or may be written to.
+#[inline]
+unsafe fn to<T>(pointer: *mut T) -> Outcome<Place<T>> {
+    if pointer.is_null() {
+        return Err(refusal(HZ_NULL));
+    }
+    Ok(Place(pointer))
+}
+
+/// A place that may be written to, and need not have a value.
+struct Place<T>(*mut T);
+
+impl<T> Place<T> {
+    #[inline]
+    fn put(self, value: T) {
+        // SAFETY: it is not null, and may be written to.
+        unsafe { self.0.write(value) };
+    }
+}
+
+/// The pager of a handle.
+///
+/// # Safety
+/// The handle is null, or as the calls of this library left it. What is returned is not used once
+/// the pager was freed.
+#[inline]
+unsafe fn pager_of(handle: *const hz_pager) -> Outcome<&'static Pager> {
+    // SAFETY: the caller says so.
+    let own = unsafe { given(handle) }?.own;
+    // SAFETY: a handle that has a pager leads to it.
+    unsafe { own.as_ref() }.ok_or_else(|| refusal(HZ_NO_CORE))
+}
+
+/// The pager of a handle, for a call that may wait or call back.
+///
+/// # Safety
+/// That of [`pager_of`].
+#[inline]
+unsafe fn waiting_pager_of(handle: *const hz_pager) -> Outcome<&'static Pager> {
+    // SAFETY: the caller says so.
+    let pager = unsafe { pager_of(handle) }?;
+    if is_inside(pager.io()) {
+        return Err(refusal(HZ_IN_CALLBACK));
+    }
+    Ok(pager)
+}
+
+/// The value of a field, or its default.
+fn or<T: Default + PartialEq>(field: T, default: T) -> T {
+    if field == T::default() {
+        default
+    } else {
+        field
+    }
+}
+
+fn period(field: u64, default: u64) -> u64 {
+    match field {
+        HZ_NO_PERIOD => 0,
+        length => or(length, default),
+    }
+}
+
+impl hz_pager_config {
+    fn settings(&self, pages: u64) -> SharedConfig {
+        let (page_size, frames) = (self.page_size, self.frames);
+        let default = match self.parts {
+            0 => SharedConfig::new(pages, page_size, frames),
+            parts => SharedConfig::with_parts(pages, page_size, frames, parts),
+        };
+        SharedConfig {
+            correlated: period(self.correlated, default.correlated),
+            retained: period(self.retained, default.retained),
+            k: or(self.k, default.k),
+            tells_each_pin: self.tells_each_pin != 0,
+            pin_wait: match self.pin_wait_ms {
+                0 => default.pin_wait,
+                some => Duration::from_millis(some),
+            },
+            ..default
+        }
+    }
+}
+
+/// Makes a pager in a handle.
+fn make(config: &SharedConfig, device: Device, handle: Place<hz_pager>) -> Outcome {
+    let mut place = Vec::new();
+    let room = place.try_reserve_exact(1);
+    room.map_err(|_| Error::OutOfMemory)?;
+    place.push(Pager::new(config, device)?);
+    let own = Box::into_raw(place.into_boxed_slice()).cast();
+    handle.put(hz_pager { own });
+    Ok(())
+}
+
+/// The handle, if it has no pager.
+///
+/// # Safety
+/// It is null, or as the calls of this library left it.
+unsafe fn empty(handle: *mut hz_pager) -> Outcome<Place<hz_pager>> {
+    // SAFETY: the caller says so.
+    match unsafe { given(handle) }?.own.is_null() {
+        true => Ok(Place(handle)),
+        false => Err(refusal(HZ_HAS_CORE)),
+    }
+}
+
+// Each call requires what the header says of its pointers, and of threads.
+
+#[unsafe(no_mangle)]
+pub unsafe extern "C" fn hz_pager_new(
+    config: *const hz_pager_config,
+    io: *const hz_io,
+    pager: *mut hz_pager,
+) -> u16 {
+    answer(|| {
+        // SAFETY: as the header says.
+        let (config, io) = unsafe { (given(config)?, given(io)?) };
+        let callbacks = Callbacks::new(io).ok_or_else(|| refusal(HZ_NULL))?;
+        // SAFETY: as the header says.
+        let handle = unsafe { empty(pager) }?;
+        make(
+            &config.settings(config.pages),
+            Device::Callbacks(callbacks),
+            handle,
+        )
+    })
+}
+
+#[unsafe(no_mangle)]
+pub unsafe extern "C" fn hz_pager_new_file(
+    config: *const hz_pager_config,
+    fd: c_int,
+    format: c_int,
+    pager: *mut hz_pager,
+) -> u16 {
+    answer(|| {
+        // SAFETY: as the header says.
+        let (config, handle) = unsafe { (given(config)?, empty(pager)?) };
+        // SAFETY: the descriptor is open till after `hz_pager_free`.
+        let file = unsafe { PageFile::new(fd, format) };
+        let file = file.ok_or(Error::BadSettings)?;
+        let pages = match config.pages {
+            0 => file.pages(config.page_size),
+            some => Ok(some),
+        };
+        let pages =
+            pages.map_err(|error| hz_pager_fault::of_error(HZ_READ_FAILED, &error).note())?;
+        make(&config.settings(pages), Device::File(file), handle)
+    })
+}
+
+#[unsafe(no_mangle)]
+pub unsafe extern "C" fn hz_pager_free(pager: *mut hz_pager) -> u16 {
+    answer(|| {
+        // SAFETY: as the header says.
+        let own = unsafe { waiting_pager_of(pager) }?;
+        if own.stats().pinned > 0 {
+            return Err(refusal(HZ_BUSY));
+        }
+        let own = ptr::slice_from_raw_parts_mut(ptr::from_ref(own).cast_mut(), 1);
+        Place(pager).put(hz_pager {
+            own: ptr::null_mut(),
+        });
+        // SAFETY: it is that of `make`. No page is fixed, and no other thread is in a call.
+        drop(unsafe { Box::from_raw(own) });
+        Ok(())
+    })
+}
+
+/// Fixes a page as `how` says.
+#[inline]
+fn fix(pager: &'static Pager, page: u64, how: u32) -> Outcome<hz_ref> {
+    let at_page = |error| refused_at(page, error);
+    match how {
+        HZ_SHARED => {
+            let guard = Guard::Shared(pager.read(page).map_err(at_page)?);
+            held::keep(guard, pager, page)
+        }
+        HZ_EXCLUSIVE => {
+            let guard = Guard::Exclusive(pager.write(page).map_err(at_page)?);
+            held::keep(guard, pager, page)
+        }
+        _ => {
+            let guard = tried(pager, page, how)?;
+            held::keep(guard, pager, page)
+        }
+    }
+}
+
+/// Fixes a page otherwise.
+#[inline(never)]
+fn tried(pager: &'static Pager, page: u64, how: u32) -> Outcome<Guard> {
+    let fixed = match how {
+        HZ_PINNED => pager.pin(page).map(|it| Some(Guard::Pinned(it))),
+        TRY_SHARED => pager.try_read(page).map(|it| it.map(Guard::Shared)),
+        TRY_EXCLUSIVE => pager.try_write(page).map(|it| it.map(Guard::Exclusive)),
+        TRY_PINNED => pager.try_pin(page).map(|it| Some(Guard::Pinned(it))),
+        _ => Err(Error::BadSettings.into()),
+    };
+    let fixed = fixed.map_err(|error| refused_at(page, error))?;
+    fixed.ok_or_else(|| refusal_of(HZ_BUSY, page))
+}
+
+const TRY_SHARED: u32 = HZ_SHARED | HZ_TRY;
+const TRY_EXCLUSIVE: u32 = HZ_EXCLUSIVE | HZ_TRY;
+const TRY_PINNED: u32 = HZ_PINNED | HZ_TRY;
+
+#[unsafe(no_mangle)]
+pub unsafe extern "C" fn hz_pager_fix(
+    pager: *const hz_pager,
+    page: u64,
+    how: u32,
+    out: *mut hz_ref,
+) -> u16 {
+    answer(|| {
+        // SAFETY: as the header says.
+        let (out, pager) = unsafe { (to(out)?, waiting_pager_of(pager)?) };
+        if how | HZ_TRY != TRY_PINNED {
+            held::check_latch(pager, page)?;
+        }
+        out.put(fix(pager, page, how)?);
+        Ok(())
+    })
+}
+
+#[unsafe(no_mangle)]
+pub unsafe extern "C" fn hz_pager_new_page(
+    pager: *const hz_pager,
+    page: u64,
+    out: *mut hz_ref,
+) -> u16 {
+    answer(|| {
+        // SAFETY: as the header says.
+        let (out, pager) = unsafe { (to(out)?, waiting_pager_of(pager)?) };
+        held::check_latch(pager, page)?;
+        let made = pager.new_page(page);
+        let made = made.map_err(|error| refused_at(page, error))?;
+        out.put(held::keep(Guard::Exclusive(made), pager, page)?);
+        Ok(())
+    })
+}
+
+/// The bytes of the caller's.
+///
+/// # Safety
+/// As long as what is returned is used, so many bytes are there and stay as they are.
+unsafe fn bytes_of<'a>(bytes: *const u8, len: usize) -> Outcome<&'a [u8]> {
+    match (bytes.is_null(), len) {
+        (_, 0) => Ok(&[]),
+        (true, _) => Err(refusal(HZ_NULL)),
+        // SAFETY: the caller says so.
+        _ => Ok(unsafe { slice::from_raw_parts(bytes, len) }),
+    }
+}
+
+#[unsafe(no_mangle)]
+pub unsafe extern "C" fn hz_pager_put(
+    page: *const hz_ref,
+    offset: usize,
+    bytes: *const u8,
+    len: usize,
+    lsn: u64,
+) -> u16 {
+    answer(|| {
+        // SAFETY: as the header says.
+        let (page, put) = unsafe { (given(page)?, bytes_of(bytes, len)?) };
+        held::with_exclusive(page, |alone| {
+            let alone = alone.ok_or_else(|| refusal_of(HZ_NOT_EXCLUSIVE, page.page))?;
+            let whole = alone.bytes().as_ptr_range();
+            let own = put.as_ptr_range();
+            if own.start < whole.end && whole.start < own.end {
+                // They change by the put itself.
+                return put_own(alone, offset, put.as_ptr(), len, lsn);
+            }
+            let done = alone.put(offset, put, lsn);
+            done.map_err(|error| refused_at(page.page, error))
+        })?
+    })
+}
+
+/// Puts bytes of the page itself, from a copy.
+fn put_own(
+    page: &mut hojzmated::PageMut<'static>,
+    offset: usize,
+    bytes: *const u8,
+    len: usize,
+    lsn: u64,
+) -> Outcome {
+    if len > page.bytes().len() {
+        return Err(refused_at(page.page(), Error::OutOfPage));
+    }
+    let done = with_scratch(len, |copy| {
+        // SAFETY: so many bytes are there, and the scratch is other memory.
+        unsafe { copy.as_mut_ptr().copy_from_nonoverlapping(bytes, len) };
+        page.put(offset, copy, lsn)
+    });
+    let done = done.unwrap_or(Err(Error::OutOfMemory));
+    done.map_err(|error| refused_at(page.page(), error))
+}
+
+#[unsafe(no_mangle)]
+pub unsafe extern "C" fn hz_pager_unfix(page: *const hz_ref) -> u16 {
+    answer(|| {
+        // SAFETY: as the header says.
+        held::give_back(unsafe { given(page) }?)
+    })
+}
+
+#[unsafe(no_mangle)]
+pub unsafe extern "C" fn hz_pager_mark(pager: *const hz_pager, lsn: u64) -> u16 {
+    answer(|| {
+        // SAFETY: as the header says.
+        unsafe { pager_of(pager) }?.mark(lsn);
+        Ok(())
+    })
+}
+
+#[unsafe(no_mangle)]
+pub unsafe extern "C" fn hz_pager_flush(pager: *const hz_pager, page: u64) -> u16 {
+    answer(|| {
+        // SAFETY: as the header says.
+        let pager = unsafe { waiting_pager_of(pager) }?;
+        held::check_exclusive(pager, Some(page))?;
+        let flushed = pager.flush(page);
+        flushed.map_err(|error| refused_at(page, error))
+    })
+}
+
+/// Where an LSN goes, or that there is none.
+struct LsnPlace(Place<u64>, Place<u8>);
+
+impl LsnPlace {
+    /// # Safety
+    /// That of [`to`].
+    unsafe fn new(lsn: *mut u64, has_lsn: *mut u8) -> Outcome<LsnPlace> {
+        // SAFETY: the caller says so.
+        Ok(unsafe { LsnPlace(to(lsn)?, to(has_lsn)?) })
+    }
+
+    fn put(self, lsn: Option<u64>) {
+        self.0.put(lsn.unwrap_or(0));
+        self.1.put(u8::from(lsn.is_some()));
+    }
+}
+
+#[unsafe(no_mangle)]
+pub unsafe extern "C" fn hz_pager_checkpoint(
+    pager: *const hz_pager,
+    lsn: *mut u64,
+    has_lsn: *mut u8,
+) -> u16 {
+    answer(|| {
+        // SAFETY: as the header says.
+        let (out, pager) = unsafe { (LsnPlace::new(lsn, has_lsn)?, waiting_pager_of(pager)?) };
+        held::check_exclusive(pager, None)?;
+        out.put(pager.checkpoint()?);
+        Ok(())
+    })
+}
+
+#[unsafe(no_mangle)]
+pub unsafe extern "C" fn hz_pager_clean(
+    pager: *const hz_pager,
+    most: usize,
+    count: *mut usize,
+) -> u16 {
+    answer(|| {
+        // SAFETY: as the header says.
+        let (count, pager) = unsafe { (to(count)?, waiting_pager_of(pager)?) };
+        count.put(pager.clean(most)?);
+        Ok(())
+    })
+}
+
+#[unsafe(no_mangle)]
+pub unsafe extern "C" fn hz_pager_purge(pager: *const hz_pager, count: *mut u64) -> u16 {
+    answer(|| {
+        // SAFETY: as the header says.
+        let (count, pager) = unsafe { (to(count)?, waiting_pager_of(pager)?) };
+        count.put(pager.purge()?);
+        Ok(())
+    })
+}
+
+#[unsafe(no_mangle)]
+pub unsafe extern "C" fn hz_pager_redo_from(
+    pager: *const hz_pager,
+    lsn: *mut u64,
+    has_lsn: *mut u8,
+) -> u16 {
+    answer(|| {
+        // SAFETY: as the header says.
+        let (out, pager) = unsafe { (LsnPlace::new(lsn, has_lsn)?, pager_of(pager)?) };
+        out.put(pager.redo_from());
+        Ok(())
+    })
+}
+
+#[unsafe(no_mangle)]
+pub unsafe extern "C" fn hz_pager_stats_of(
+    pager: *const hz_pager,
+    out: *mut hz_pager_stats,
+) -> u16 {
+    answer(|| {
+        // SAFETY: as the header says.
+        let (out, pager) = unsafe { (to(out)?, pager_of(pager)?) };
+        let stats = pager.stats();
+        out.put(hz_pager_stats {
+            hits: stats.totals.hits,
+            faults: stats.totals.faults,
+            evictions: stats.totals.evictions,
+            writes: stats.totals.writes,
+            failed: stats.totals.failed,
+            refused: stats.totals.refused,
+            waits: stats.waits,
+            resident: stats.resident,
+            pinned: stats.pinned,
+            unsaved: stats.unsaved,
+            memory: stats.memory,
+        });
+        Ok(())
+    })
+}
+
+#[unsafe(no_mangle)]
+pub unsafe extern "C" fn hz_pager_is_resident(
+    pager: *const hz_pager,
+    page: u64,
+    is_resident: *mut u8,
+) -> u16 {
+    answer(|| {
+        // SAFETY: as the header says.
+        let (out, pager) = unsafe { (to(is_resident)?, pager_of(pager)?) };
+        if page >= pager.config().pages {
+            return Err(refusal_of(HZ_OUT_OF_PAGE, page));
+        }
+        out.put(u8::from(pager.is_resident(page)));
+        Ok(())
+    })
+}
+
+#[unsafe(no_mangle)]
+pub unsafe extern "C" fn hz_pager_fault_of(out: *mut hz_pager_fault) -> u16 {
+    answer(|| {
+        // SAFETY: as the header says.
+        unsafe { to(out) }?.put(fault::newest());
+        Ok(())
+    })
+}
+
+#[unsafe(no_mangle)]
+pub unsafe extern "C" fn hz_pager_text(into: *mut c_char, len: usize) -> usize {
+    let whole = catch_unwind(|| fault::newest().to_string()).unwrap_or_default();
+    if !into.is_null() && len > 0 {
+        let fits = whole.len().min(len - 1);
+        // SAFETY: so many bytes may be written to, and a zero after them.
+        unsafe {
+            into.cast::<u8>()
+                .copy_from_nonoverlapping(whole.as_ptr(), fits);
+            into.add(fits).write(0);
+        }
+    }
+    whole.len()
+}
+
+#[unsafe(no_mangle)]
+pub extern "C" fn hz_pager_version() -> u32 {
+    hojzmated::version()
+}

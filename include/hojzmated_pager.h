@@ -1,0 +1,263 @@
+/* A pager for many threads, for C, C++ and whatever calls C: a pool with the file that it reads and writes, and with a
+ * latch on each page, which is a lock on that page alone. docs/C.md has an engine over it. The pools below it are
+ * proved; what stands here is tested. A program links with libhojzmated_pager, which has all that it needs.
+ *
+ *     hz_pager_config config = {0};                all else has a default
+ *     config.pages = 1000, config.page_size = 4096, config.frames = 64;
+ *     hz_pager_new_file(&config, fd, 1, &pager);   or hz_pager_new, with functions that read, write and sync
+ *     hz_pager_fix(&pager, 7, HZ_EXCLUSIVE, &page);
+ *     count = page.bytes[0] + 1;                   the page in place, which is only looked at
+ *     hz_pager_put(&page, 0, &count, 1, lsn);      changes a part of it, under the log record lsn
+ *     hz_pager_unfix(&page);
+ *     hz_pager_checkpoint(&pager, &lsn, &has_lsn);
+ *     hz_pager_free(&pager);
+ *
+ * Answers. Each call that returns a uint16_t returns 0 (HZ_DONE), or the number of a refusal: one of enum hz_refusal in
+ * hojzmated.h, or of enum hz_pager_refusal below. hz_pager_text has its text, and hz_pager_fault_of its page and errno.
+ * A refused call writes nothing to where its results go. The pager can be used after each refusal. A null pointer is
+ * refused with HZ_NULL before all else, but for that of a buffer of length 0. A handle that has no pager, as after
+ * hz_pager_free, is then refused with HZ_NO_CORE by each call but hz_pager_new and hz_pager_new_file; and a call that a
+ * callback may not make with HZ_IN_CALLBACK. HZ_PANICKED may come of each call, and tells of a fault of the library.
+ *
+ * Threads. Any thread may make any call at any time, while others make others, with three rules:
+ *
+ *   - A page is given back, and put to, by the thread that fixed it. Another thread is refused with HZ_UNKNOWN_PASS.
+ *     Where a thread ends, what it has still fixed is given back.
+ *   - A thread waits for no latch of its own. So where it has a latch of a page, it is refused with HZ_DEADLOCK if it
+ *     fixes that page again, except with HZ_PINNED; and if it has an exclusive latch, a flush of that page and each
+ *     checkpoint are refused so.
+ *   - Threads that have a latch and wait for another can wait for each other for ever, which the library cannot tell.
+ *     So take latches in one order, as from the root of a tree down. Against it fix with HZ_TRY, and give back what you
+ *     have where that is refused with HZ_BUSY. A flush and a checkpoint wait for exclusive latches too.
+ *
+ * These the library cannot tell, and what it does then is not defined: a handle of a pager that is neither all zero nor
+ * as these calls left it, or that is a copy; hz_pager_free while another thread is in a call of that pager; a pointer
+ * to other memory than its type says, or to fewer bytes than the length beside it; a write to a page's bytes, or a look
+ * at them after it was given back; a callback that throws, or that longjmp leaves; a call after the destructors of
+ * thread-local objects of its thread have run.
+ */
+#ifndef HOJZMATED_PAGER_H
+#define HOJZMATED_PAGER_H
+
+#include "hojzmated.h"
+
+#ifdef __cplusplus
+extern "C" {
+#endif
+
+/* The refusals of a pager beside those of enum hz_refusal, which mean here:
+ *
+ *     HZ_NO_VICTIM      all pages that could make way were pinned for the whole time that a call waits
+ *     HZ_NEED_LOG       the log could not be made durable; the fault has the LSN, and the errno of the callback
+ *     HZ_BUSY           a latch cannot be had at once, with HZ_TRY; or a page is still fixed, when a pager is freed
+ *     HZ_UNKNOWN_PASS   this thread has not fixed the page, or has given it back
+ *     HZ_READ_FAILED    a page could not be read, and is in no frame; the fault has the page and the errno
+ *     HZ_WRITE_FAILED   a page could not be written out, and is unsaved; the fault has the page and the errno
+ *     HZ_WRONG_PAGE     what was read is another page, or is spoilt
+ *     HZ_OUT_OF_MEMORY  there is no memory for what the call needs
+ *     HZ_OUT_OF_PAGE    the file has no such page, or the bytes are not within the page
+ *     HZ_NO_CORE        the handle has no pager
+ *     HZ_HAS_CORE       the handle has a pager already
+ */
+enum hz_pager_refusal {
+    HZ_SYNC_FAILED = 71,   /* the device could not be synced: what was written since the last good sync may be lost */
+    HZ_DEADLOCK = 72,      /* the call would wait for a latch that this thread has */
+    HZ_NOT_EXCLUSIVE = 73, /* the page is not under its exclusive latch */
+    HZ_IN_CALLBACK = 74,   /* a callback of this pager may not make the call */
+    HZ_PANICKED = 75,      /* the library found a fault of its own, or a page has 500,000 pins or latches. Standard
+                              error has a line of it */
+};
+
+/* How a page is fixed: one of the first three, or one of them with HZ_TRY, as HZ_SHARED | HZ_TRY. */
+enum hz_how {
+    HZ_SHARED = 1,    /* under its shared latch: nobody puts to the page meanwhile */
+    HZ_EXCLUSIVE = 2, /* under its exclusive latch: nobody else has a latch of the page, nor does it go out */
+    HZ_PINNED = 3,    /* without a latch: it stays in its frame. Fix it again, under a latch, to look at it */
+    HZ_TRY = 16,      /* waits for no latch and no pin of other threads, but for the device */
+};
+
+/* A pager, or none: one that is all zero bytes has none. It stays where it is: a copy is not a pager. */
+typedef struct hz_pager {
+    void *own;
+} hz_pager;
+
+/* A page that a thread has fixed. It may be copied and kept anywhere, and holds no memory: once the page was given back
+ * each copy is refused with HZ_UNKNOWN_PASS, by whichever thread, for ever. */
+typedef struct hz_ref {
+    const uint8_t *bytes; /* the page in place, as many bytes as the page size, until it is given back. Null if it is
+                             pinned without a latch. No alignment is promised */
+    uint64_t page;
+    uint64_t serial;
+    uint32_t slot;
+    uint32_t how; /* HZ_SHARED, HZ_EXCLUSIVE or HZ_PINNED */
+} hz_ref;
+
+#define HZ_NO_PERIOD UINT64_MAX
+
+/* What a pager is made with. Name the fields: later versions may have more. A field of 0 has its default. */
+typedef struct hz_pager_config {
+    uint64_t pages;       /* of the file, from 0 on: 1 to 1,048,576 for each part. No default, but for a descriptor */
+    size_t page_size;     /* 16 to 65,536 bytes, a multiple of 16. No default */
+    size_t frames;        /* the most pages in memory: 1 to 65,536 for each part. No default */
+    size_t parts;         /* pools side by side, each with a lock: 1 to 64. Else by the processors */
+    uint64_t correlated;  /* the two periods of LRU-K, in fixes: 1 to 2^62, or HZ_NO_PERIOD for one of no length. */
+    uint64_t retained;    /* Else an eighth of the frames, and one without end */
+    uint64_t pin_wait_ms; /* how long a call waits where all pages that could make way are pinned. Else 10,000 */
+    uint8_t k;            /* the K of LRU-K: 1 to 16. Else 2 */
+    uint8_t tells_each_pin; /* 1: each fix is told to LRU-K at once, which takes a lock. Else a page that is fixed, or
+                               was a short while ago, is fixed again without one, and such fixes are one reference */
+} hz_pager_config;
+
+/* What a read callback answers where it found another page than it was asked for, or a wrong checksum. */
+#define HZ_IO_WRONG_PAGE (-1)
+
+/* The engine's device and log, as functions that the pager calls. Each gets the engine's own pointer, and answers 0 or
+ * an errno, which the call that needed it then tells. None may be null.
+ *
+ * Several threads may be in these at once, each in a call on the pager. The pager holds no lock meanwhile. But the
+ * thread may have latches: so make_log_durable takes no lock that a thread has while it waits for a page.
+ *
+ * A callback may call hz_pager_mark, hz_pager_put, hz_pager_unfix, and what only tells: hz_pager_redo_from,
+ * hz_pager_stats_of, hz_pager_is_resident, hz_pager_fault_of, hz_pager_text. It may make any call on another pager. */
+typedef struct hz_io {
+    void *own;
+    /* Reads a page into the image. After an error the image may hold anything. */
+    int (*read)(void *own, uint64_t page, uint8_t *image, size_t page_size);
+    /* Writes the image in the page's place. The image is a copy, and may be changed: the page LSN and a checksum can
+     * be put into it. The log is durable as far as lsn. After an error the page is unsaved. */
+    int (*write)(void *own, uint64_t page, uint8_t *image, size_t page_size, uint64_t lsn);
+    /* Makes the log durable at least as far as lsn. Where it gets further, hz_pager_mark tells the pager. */
+    int (*make_log_durable)(void *own, uint64_t lsn);
+    /* Makes all writes to the device durable. */
+    int (*sync)(void *own);
+} hz_io;
+
+/* Which refusal came, and of what. */
+typedef struct hz_pager_fault {
+    uint64_t page;    /* where has_page */
+    uint64_t lsn;     /* HZ_NEED_LOG: how far the log has to be durable. Else 0 */
+    int32_t error;    /* the errno of the callback or of the file, or 0 */
+    uint16_t number;  /* the refusal, or 0 where this thread was never refused */
+    uint8_t has_page; /* 0 or 1. The page may be another than that of the call: a victim that could not be written */
+} hz_pager_fault;
+
+/* What was counted since the pager was made, about, and how many pages there are of each kind now. While other threads
+ * use the pager, each part is counted at a moment of its own. */
+typedef struct hz_pager_stats {
+    uint64_t hits;      /* fixes that found their page in a frame */
+    uint64_t faults;    /* reads that went well, and new pages */
+    uint64_t evictions; /* pages that left a frame for another */
+    uint64_t writes;    /* write-outs that went well */
+    uint64_t failed;    /* reads and write-outs that failed */
+    uint64_t refused;   /* times that a pool could not do at once what it was asked for */
+    uint64_t waits;     /* times that a thread slept till a page was read, written out or unpinned */
+    size_t resident;    /* pages in frames */
+    size_t pinned;      /* of these, pages that are fixed */
+    size_t unsaved;     /* of these, pages with a put that is in no image on the device */
+    size_t memory;      /* bytes that the pager has, about */
+} hz_pager_stats;
+
+/* Makes a pager in a handle that has none. The table of callbacks is copied; its pointer is kept until hz_pager_free.
+ * Refused:
+ *
+ *     HZ_NULL          also where a callback is null
+ *     HZ_HAS_CORE
+ *     HZ_BAD_SETTINGS, HZ_BAD_GEOMETRY  a field of the config is out of its limits
+ *     HZ_OUT_OF_MEMORY
+ */
+uint16_t hz_pager_new(const hz_pager_config *config, const hz_io *io, hz_pager *pager);
+
+/* Makes a pager over a page file, without a log: each LSN counts as durable. The file is open for reading and writing,
+ * and is still the engine's: close it after hz_pager_free. It is of format 1, which has the pages one after the other,
+ * or of format 2, with 16 bytes before each (hz_file.h). Where config->pages is 0 it is as many as the file has.
+ * Refused: as hz_pager_new; HZ_BAD_SETTINGS for another format; HZ_READ_FAILED where the descriptor tells no length. */
+uint16_t hz_pager_new_file(const hz_pager_config *config, int fd, int format, hz_pager *pager);
+
+/* Frees a pager, whose handle has none then. It writes nothing out: pages that are unsaved are lost, so make a
+ * checkpoint before. No other thread may be in a call of it. Refused: HZ_NO_CORE; HZ_IN_CALLBACK; HZ_BUSY where a page
+ * is fixed, by whichever thread. */
+uint16_t hz_pager_free(hz_pager *pager);
+
+/* Fixes a page: gives it in *ref, with a latch or pinned, until hz_pager_unfix. It is read if it is in no frame, and
+ * another page may have to be written out for that, its log record first. The call waits while the page is read by
+ * another thread, and for the latch. Refused:
+ *
+ *     HZ_BAD_SETTINGS  there is no such how
+ *     HZ_OUT_OF_PAGE
+ *     HZ_DEADLOCK      this thread has a latch of the page
+ *     HZ_BUSY          with HZ_TRY, where the latch is not free
+ *     HZ_NO_VICTIM     with HZ_TRY at once
+ *     HZ_NEED_LOG, HZ_READ_FAILED, HZ_WRITE_FAILED, HZ_WRONG_PAGE, HZ_OUT_OF_MEMORY
+ */
+uint16_t hz_pager_fix(const hz_pager *pager, uint64_t page, uint32_t how, hz_ref *ref);
+
+/* Fixes a page that was never written, under its exclusive latch: its bytes are zeros, and nothing is read. If it is in
+ * a frame, it is as it is there. Put something there: until then the page counts as saved, and may leave its frame
+ * without being written out. Refused: as hz_pager_fix, but for HZ_BUSY and HZ_READ_FAILED. */
+uint16_t hz_pager_new_page(const hz_pager *pager, uint64_t page, hz_ref *ref);
+
+/* Puts len bytes into the page from the offset on, under the log record lsn: the page goes out only once the log is
+ * durable as far as lsn. 0 is for a change without a record. All puts of one fix are in an image of the page, or none.
+ * The bytes may be those of a fixed page, of this one too. Refused: HZ_UNKNOWN_PASS; HZ_NOT_EXCLUSIVE; HZ_OUT_OF_PAGE;
+ * HZ_OUT_OF_MEMORY, where they are those of this page. The page is then as it was. */
+uint16_t hz_pager_put(const hz_ref *ref, size_t offset, const uint8_t *bytes, size_t len, uint64_t lsn);
+
+/* Gives a page back, with its latch. Refused: HZ_UNKNOWN_PASS. */
+uint16_t hz_pager_unfix(const hz_ref *ref);
+
+/* Notes that the log is durable as far as lsn. The mark never falls: one that is too far lets pages out before their
+ * log records, from then on. */
+uint16_t hz_pager_mark(const hz_pager *pager, uint64_t lsn);
+
+/* Writes a page out, if it is unsaved. It waits for a thread that has its exclusive latch. Refused: HZ_OUT_OF_PAGE;
+ * HZ_DEADLOCK; HZ_NEED_LOG, HZ_WRITE_FAILED, HZ_OUT_OF_MEMORY, after which it is unsaved. */
+uint16_t hz_pager_flush(const hz_pager *pager, uint64_t page);
+
+/* Writes out each page that was unsaved when the call began, in the order of the file, and then syncs the device.
+ *
+ * It tells in *lsn from which LSN redo has to begin: the least of all puts that may not be on the device, where
+ * *has_lsn is 1; there is none where it is 0, and *lsn too. The pager does not know a record that has no put yet. So
+ * note the end of the log before the call, while no thread is between a record and its put, and cut the log at the
+ * lesser of both.
+ *
+ * Refused: HZ_DEADLOCK where this thread has an exclusive latch of this pager; HZ_NEED_LOG, HZ_WRITE_FAILED,
+ * HZ_OUT_OF_MEMORY, of the first page of several, after which all pages are written out that can be; HZ_SYNC_FAILED,
+ * after which all that went out since the last good sync may be lost, and each later checkpoint is refused so, with no
+ * errno: end the pager, and redo from the log. */
+uint16_t hz_pager_checkpoint(const hz_pager *pager, uint64_t *lsn, uint8_t *has_lsn);
+
+/* Writes out at most so many pages, so that later victims need not be. They are pages that nobody has fixed, and whose
+ * log records are durable already. It waits for no other thread: call it again and again from a thread of its own.
+ * *count gets how many went out. Refused: HZ_WRITE_FAILED and HZ_OUT_OF_MEMORY, of the first page of several. */
+uint16_t hz_pager_clean(const hz_pager *pager, size_t most, size_t *count);
+
+/* Forgets the references of pages that are in no frame and whose newest reference is older than the retained period.
+ * *count gets how many. */
+uint16_t hz_pager_purge(const hz_pager *pager, uint64_t *count);
+
+/* The calls from here on only tell.
+ *
+ * Tells the least LSN of all puts that are in no image on the device, as hz_pager_checkpoint does. */
+uint16_t hz_pager_redo_from(const hz_pager *pager, uint64_t *lsn, uint8_t *has_lsn);
+
+/* Tells what was counted. */
+uint16_t hz_pager_stats_of(const hz_pager *pager, hz_pager_stats *out);
+
+/* Tells whether a page is in a frame: *is_resident gets 1 or 0. Refused: HZ_OUT_OF_PAGE. */
+uint16_t hz_pager_is_resident(const hz_pager *pager, uint64_t page, uint8_t *is_resident);
+
+/* Tells of the newest call of this thread that was refused. Later calls that go well do not change it. */
+uint16_t hz_pager_fault_of(hz_pager_fault *out);
+
+/* Writes the text of that refusal, with its page and the text of its errno, as "page 7 could not be read: No space left
+ * on device": as much as fits, with a zero at its end. Returns the length of the whole, without the zero. Where `into`
+ * is null or len is 0, nothing is written. */
+size_t hz_pager_text(char *into, size_t len);
+
+/* The HZ_VERSION of the library. */
+uint32_t hz_pager_version(void);
+
+#ifdef __cplusplus
+}
+#endif
+#endif

@@ -1,0 +1,59 @@
+/* What the pager's library takes each struct of its header to be, as layout.c has it of the core. The Rust below has
+ * the same structs (`bindings/rust/capi/src/abi.rs`). It is compiled as C and as C++, and has no code.
+ */
+#include "hojzmated_pager.h"
+
+#ifdef __cplusplus
+#define HOLDS(fact) static_assert(fact, #fact)
+#else
+#define HOLDS(fact) _Static_assert(fact, #fact)
+#endif
+#define LIES(type, field, at, len) HOLDS(offsetof(type, field) == (at) && sizeof(((type *)0)->field) == (len))
+
+HOLDS(sizeof(hz_pager) == 8);
+LIES(hz_pager, own, 0, 8);
+
+HOLDS(sizeof(hz_ref) == 32);
+LIES(hz_ref, bytes, 0, 8);
+LIES(hz_ref, page, 8, 8);
+LIES(hz_ref, serial, 16, 8);
+LIES(hz_ref, slot, 24, 4);
+LIES(hz_ref, how, 28, 4);
+
+HOLDS(sizeof(hz_pager_config) == 64);
+LIES(hz_pager_config, pages, 0, 8);
+LIES(hz_pager_config, page_size, 8, 8);
+LIES(hz_pager_config, frames, 16, 8);
+LIES(hz_pager_config, parts, 24, 8);
+LIES(hz_pager_config, correlated, 32, 8);
+LIES(hz_pager_config, retained, 40, 8);
+LIES(hz_pager_config, pin_wait_ms, 48, 8);
+LIES(hz_pager_config, k, 56, 1);
+LIES(hz_pager_config, tells_each_pin, 57, 1);
+
+HOLDS(sizeof(hz_io) == 40);
+LIES(hz_io, own, 0, 8);
+LIES(hz_io, read, 8, 8);
+LIES(hz_io, write, 16, 8);
+LIES(hz_io, make_log_durable, 24, 8);
+LIES(hz_io, sync, 32, 8);
+
+HOLDS(sizeof(hz_pager_fault) == 24);
+LIES(hz_pager_fault, page, 0, 8);
+LIES(hz_pager_fault, lsn, 8, 8);
+LIES(hz_pager_fault, error, 16, 4);
+LIES(hz_pager_fault, number, 20, 2);
+LIES(hz_pager_fault, has_page, 22, 1);
+
+HOLDS(sizeof(hz_pager_stats) == 88);
+LIES(hz_pager_stats, hits, 0, 8);
+LIES(hz_pager_stats, faults, 8, 8);
+LIES(hz_pager_stats, evictions, 16, 8);
+LIES(hz_pager_stats, writes, 24, 8);
+LIES(hz_pager_stats, failed, 32, 8);
+LIES(hz_pager_stats, refused, 40, 8);
+LIES(hz_pager_stats, waits, 48, 8);
+LIES(hz_pager_stats, resident, 56, 8);
+LIES(hz_pager_stats, pinned, 64, 8);
+LIES(hz_pager_stats, unsaved, 72, 8);
+LIES(hz_pager_stats, memory, 80, 8);

@@ -1,0 +1,428 @@
+/* What a pager of hojzmated_pager.h does with a device: errors of callbacks, checkpoints, calls from callbacks,
+ * threads, page files, memory that is refused, and a panic.
+ *
+ *     check/bindings        builds it with the library and the linker's --wrap of the calls for memory, and runs it
+ */
+#define _POSIX_C_SOURCE 200809L
+#include "pager_test.h"
+#include <fcntl.h>
+#include <unistd.h>
+
+/* ---- Memory, of which one request in a round may be refused ---- */
+
+void *__real_malloc(size_t n);
+void *__real_calloc(size_t n, size_t each);
+void *__real_realloc(void *old, size_t n);
+int __real_posix_memalign(void **at, size_t align, size_t n);
+
+static unsigned long requests, refused; /* which of them is refused: from 1 */
+
+static bool is_refused(void)
+{
+    return ++requests == refused;
+}
+
+void *__wrap_malloc(size_t n)
+{
+    return is_refused() ? NULL : __real_malloc(n);
+}
+
+void *__wrap_calloc(size_t n, size_t each)
+{
+    return is_refused() ? NULL : __real_calloc(n, each);
+}
+
+void *__wrap_realloc(void *old, size_t n)
+{
+    return is_refused() ? NULL : __real_realloc(old, n);
+}
+
+int __wrap_posix_memalign(void **at, size_t align, size_t n)
+{
+    return is_refused() ? ENOMEM : __real_posix_memalign(at, align, n);
+}
+
+/* ---- Device and log ---- */
+
+/* Each error of a callback is told with its page, LSN and errno, and all can be used afterwards. */
+static void errors(void)
+{
+    hz_pager pager = start();
+    hz_ref ref;
+    uint64_t lsn;
+    uint8_t has_lsn;
+    size_t count;
+    device.read_error = EIO;
+    REFUSED(HZ_READ_FAILED, 1, 6, 0, EIO, hz_pager_fix(&pager, 6, HZ_SHARED, &ref));
+    SAYS("page 6: it could not be read: Input/output error (os error 5)");
+    device.read_error = HZ_IO_WRONG_PAGE;
+    REFUSED(HZ_WRONG_PAGE, 1, 6, 0, 0, hz_pager_fix(&pager, 6, HZ_SHARED, &ref));
+    device.read_error = 0;
+    change(&pager, 6, 66, 10);
+    device.log_error = ENOSPC;
+    REFUSED(HZ_NEED_LOG, 1, 6, 10, ENOSPC, hz_pager_flush(&pager, 6));
+    SAYS("page 6: the log could not be made durable (LSN 10): No space left on device (os error 28)");
+    REFUSED(HZ_NEED_LOG, 0, 0, 10, ENOSPC, hz_pager_checkpoint(&pager, &lsn, &has_lsn));
+    device.log_error = 0;
+    device.write_error = EFBIG;
+    REFUSED(HZ_WRITE_FAILED, 1, 6, 0, EFBIG, hz_pager_flush(&pager, 6));
+    SAYS("page 6: it could not be written: File too large (os error 27)");
+    REFUSED(HZ_WRITE_FAILED, 1, 6, 0, EFBIG, hz_pager_checkpoint(&pager, &lsn, &has_lsn));
+    REFUSED(HZ_WRITE_FAILED, 1, 6, 0, EFBIG, hz_pager_clean(&pager, 9, &count));
+    /* A victim that cannot go out: the fault has its page. */
+    for (uint64_t page = 0; page < FRAMES - 1; page++)
+        change(&pager, page, 77, 0);
+    REFUSED(HZ_WRITE_FAILED, 1, 6, 0, EFBIG, hz_pager_fix(&pager, 9, HZ_SHARED, &ref));
+    device.write_error = 0;
+    device.sync_error = EDQUOT;
+    REFUSED(HZ_SYNC_FAILED, 0, 0, 0, EDQUOT, hz_pager_checkpoint(&pager, &lsn, &has_lsn));
+    SAME(66, device.pages[6][0]);
+    device.sync_error = 0;
+    REFUSED(HZ_SYNC_FAILED, 0, 0, 0, 0, hz_pager_checkpoint(&pager, &lsn, &has_lsn)); /* it is remembered */
+    ref = fixed(&pager, 9, HZ_EXCLUSIVE);
+    SAME(HZ_DONE, hz_pager_unfix(&ref));
+    end(&pager);
+}
+
+static void checkpoints(void)
+{
+    hz_pager pager = start();
+    uint64_t lsn = ODD, count = ODD;
+    uint8_t flag = ODD;
+    size_t cleaned = ODD;
+    SAME(HZ_DONE, hz_pager_redo_from(&pager, &lsn, &flag));
+    SAME(0, lsn + flag);
+    change(&pager, 3, 33, 20);
+    change(&pager, 1, 11, 21);
+    change(&pager, 3, 34, 22);
+    SAME(HZ_DONE, hz_pager_redo_from(&pager, &lsn, &flag));
+    SAME(20, lsn);
+    SAME(1, flag);
+    SAME(HZ_DONE, hz_pager_clean(&pager, 9, &cleaned)); /* nothing is durable */
+    SAME(0, cleaned);
+    SAME(0, device.writes + device.logs + device.syncs);
+    device.durable = 21;
+    SAME(HZ_DONE, hz_pager_mark(&pager, 21));
+    SAME(HZ_DONE, hz_pager_clean(&pager, 9, &cleaned)); /* page 1 alone */
+    SAME(1, cleaned);
+    SAME(11, device.pages[1][0]);
+    SAME(21, device.lsns[1]);
+    SAME(HZ_DONE, hz_pager_checkpoint(&pager, &lsn, &flag));
+    SAME(0, lsn + flag);
+    SAME(34, device.pages[3][0]);
+    SAME(22, device.lsns[3]);
+    SAME(2, device.writes);
+    SAME(1, device.logs);
+    SAME(1, device.syncs);
+    hz_pager_stats stats;
+    SAME(HZ_DONE, hz_pager_stats_of(&pager, &stats));
+    SAME(1, stats.hits);
+    SAME(2, stats.faults);
+    SAME(0, stats.evictions + stats.failed + stats.pinned + stats.unsaved);
+    SAME(2, stats.writes);
+    SAME(2, stats.resident);
+    SAME(true, stats.memory > FRAMES * SIZE);
+    SAME(HZ_DONE, hz_pager_is_resident(&pager, 3, &flag));
+    SAME(1, flag);
+    SAME(HZ_DONE, hz_pager_is_resident(&pager, 4, &flag));
+    SAME(0, flag);
+    REFUSED(HZ_OUT_OF_PAGE, 1, PAGES, 0, 0, hz_pager_is_resident(&pager, PAGES, &flag));
+    SAME(HZ_OUT_OF_PAGE, hz_pager_flush(&pager, PAGES));
+    SAME(HZ_DONE, hz_pager_purge(&pager, &count));
+    SAME(0, count);
+    end(&pager);
+}
+
+static void purges(void)
+{
+    hz_pager_config config = usual();
+    hz_pager pager = {0};
+    uint64_t count = ODD;
+    end((hz_pager[1]){start()});
+    config.retained = 3;
+    SAME(HZ_DONE, hz_pager_new(&config, &io, &pager));
+    for (uint64_t page = 0; page < 12; page++) {
+        hz_ref ref = fixed(&pager, page, HZ_SHARED);
+        SAME(HZ_DONE, hz_pager_unfix(&ref));
+    }
+    /* Four are in frames, and of the other eight the newest was used four fixes before the last. */
+    SAME(HZ_DONE, hz_pager_purge(&pager, &count));
+    SAME(8, count);
+    end(&pager);
+}
+
+/* ---- Callbacks ---- */
+
+static hz_pager beside;      /* another pager */
+static hz_ref held;          /* a page that the thread has while it is in a callback */
+static unsigned looks_inside;
+
+static void look_inside(void)
+{
+    hz_pager *pager = device.pager;
+    hz_ref ref;
+    uint64_t number;
+    uint8_t flag;
+    size_t count;
+    hz_pager_stats stats;
+    device.inside = NULL; /* once, and not in the callbacks of the pager beside */
+    looks_inside++;
+    REFUSED(HZ_IN_CALLBACK, 0, 0, 0, 0, hz_pager_free(pager));
+    SAYS("a callback of the pager may not make this call");
+    SAME(HZ_IN_CALLBACK, hz_pager_fix(pager, 7, HZ_PINNED | HZ_TRY, &ref));
+    SAME(HZ_IN_CALLBACK, hz_pager_new_page(pager, 7, &ref));
+    SAME(HZ_IN_CALLBACK, hz_pager_flush(pager, 7));
+    SAME(HZ_IN_CALLBACK, hz_pager_checkpoint(pager, &number, &flag));
+    SAME(HZ_IN_CALLBACK, hz_pager_clean(pager, 1, &count));
+    SAME(HZ_IN_CALLBACK, hz_pager_purge(pager, &number));
+    SAME(HZ_DONE, hz_pager_mark(pager, 1));
+    SAME(HZ_DONE, hz_pager_redo_from(pager, &number, &flag));
+    SAME(HZ_DONE, hz_pager_stats_of(pager, &stats));
+    SAME(HZ_DONE, hz_pager_is_resident(pager, 7, &flag));
+    SAME(HZ_DONE, hz_pager_put(&held, 0, (const uint8_t *)"c", 1, 0));
+    change(&beside, 7, 70, 0);
+    SAME(HZ_DONE, hz_pager_flush(&beside, 7));
+    SAME(HZ_UNKNOWN_PASS, hz_pager_unfix((hz_ref[1]){{0}}));
+}
+
+static void callbacks(void)
+{
+    hz_pager_config config = usual();
+    hz_pager pager = start();
+    hz_ref ref;
+    uint64_t lsn;
+    uint8_t has_lsn;
+    device.pager = &pager;
+    SAME(HZ_DONE, hz_pager_new(&config, &io, &beside));
+    held = fixed(&pager, 1, HZ_EXCLUSIVE);
+    device.inside = look_inside;
+    ref = fixed(&pager, 2, HZ_EXCLUSIVE); /* read */
+    SAME('c', held.bytes[0]);
+    SAME(HZ_DONE, hz_pager_put(&ref, 0, (const uint8_t *)"d", 1, 50));
+    SAME(HZ_DONE, hz_pager_unfix(&ref));
+    device.inside = look_inside;
+    SAME(HZ_DONE, hz_pager_flush(&pager, 2)); /* the log */
+    change(&pager, 2, 22, 50);
+    device.inside = look_inside;
+    SAME(HZ_DONE, hz_pager_flush(&pager, 2)); /* a write alone */
+    SAME(HZ_DONE, hz_pager_unfix(&held));
+    held = fixed(&pager, 3, HZ_SHARED);
+    /* The newest refusal is that of the call, and not of what its callback tried. */
+    SAME(HZ_DEADLOCK, hz_pager_fix(&pager, 3, HZ_SHARED, &ref));
+    SAME(HZ_DONE, hz_pager_unfix(&held));
+    held = fixed(&pager, 4, HZ_EXCLUSIVE);
+    SAME(HZ_DEADLOCK, hz_pager_checkpoint(&pager, &lsn, &has_lsn));
+    device.inside = look_inside;
+    ref = fixed(&pager, 5, HZ_SHARED);
+    SAYS("the call would wait for a latch that this thread has");
+    SAME(HZ_DONE, hz_pager_unfix(&ref));
+    SAME(HZ_DONE, hz_pager_unfix(&held));
+    SAME(4, looks_inside);
+    end(&beside);
+    end(&pager);
+}
+
+/* ---- Threads ---- */
+
+enum { THREADS = 8, ROUNDS = 4000 };
+
+/* Adds to the counters of two pages at a time, in the order of the pages. */
+static void *add(void *argument)
+{
+    hz_pager *pager = argument;
+    uint64_t state = (uintptr_t)&state, lsn = 0;
+    uint8_t flag;
+    size_t count;
+    for (int round = 0; round < ROUNDS; round++) {
+        state = state * 6364136223846793005u + 1442695040888963407u;
+        uint64_t low = (state >> 33) % (PAGES - 1), high = low + 1 + (state >> 43) % (PAGES - 1 - low), counts[2];
+        hz_ref pages[2] = {fixed(pager, low, HZ_EXCLUSIVE), fixed(pager, high, HZ_EXCLUSIVE)};
+        for (int i = 0; i < 2; i++) {
+            memcpy(&counts[i], pages[i].bytes, 8);
+            counts[i]++;
+            SAME(HZ_DONE, hz_pager_put(&pages[i], 0, (uint8_t *)&counts[i], 8, counts[i]));
+        }
+        for (int i = 0; i < 2; i++)
+            SAME(HZ_DONE, hz_pager_unfix(&pages[i]));
+        if (round % 512 == 0)
+            SAME(HZ_DONE, hz_pager_checkpoint(pager, &lsn, &flag));
+        if (round % 64 == 0)
+            SAME(HZ_DONE, hz_pager_clean(pager, 2, &count));
+        if (round % 16 == 0)
+            SAME(HZ_DONE, hz_pager_flush(pager, low));
+    }
+    return NULL;
+}
+
+static void threads(void)
+{
+    pthread_t all[THREADS];
+    uint64_t sum = 0, count, lsn;
+    uint8_t has_lsn;
+    hz_pager_config config = usual();
+    hz_pager pager = start();
+    end(&pager);
+    memset(device.pages, 0, sizeof device.pages);
+    config.frames = THREADS + 1; /* if each thread has one page, one of them gets its second */
+    config.correlated = 0;
+    config.pin_wait_ms = 60000;
+    SAME(HZ_DONE, hz_pager_new(&config, &io, &pager));
+    for (int i = 0; i < THREADS; i++)
+        SAME(0, pthread_create(&all[i], NULL, add, &pager));
+    for (int i = 0; i < THREADS; i++)
+        SAME(0, pthread_join(all[i], NULL));
+    SAME(HZ_DONE, hz_pager_checkpoint(&pager, &lsn, &has_lsn));
+    for (int page = 0; page < PAGES; page++) {
+        memcpy(&count, device.pages[page], 8);
+        sum += count;
+    }
+    SAME(2 * THREADS * ROUNDS, sum);
+    end(&pager);
+}
+
+/* ---- Page files ---- */
+
+static void files(void)
+{
+    hz_pager_config config = usual();
+    hz_pager pager = {0};
+    hz_ref ref;
+    uint64_t lsn;
+    uint8_t has_lsn, slot[16 + SIZE];
+    config.pages = 0;
+    for (int format = 1; format <= 2; format++) {
+        size_t head = format == 2 ? 16 : 0, size = head + SIZE;
+        int fd = open("pager.pages", O_RDWR | O_CREAT | O_TRUNC, 0600);
+        for (uint8_t page = 0; page < PAGES; page++) {
+            memset(slot, page, sizeof slot);
+            memset(slot, 0, 16);
+            slot[0] = page;
+            SAME(size, pwrite(fd, slot + 16 - head, size, (off_t)(page * size)));
+        }
+        SAME(HZ_DONE, hz_pager_new_file(&config, fd, format, &pager));
+        REFUSED(HZ_OUT_OF_PAGE, 1, PAGES, 0, 0, hz_pager_fix(&pager, PAGES, HZ_SHARED, &ref));
+        for (uint64_t page = 0; page < PAGES; page++) {
+            ref = fixed(&pager, page, HZ_SHARED);
+            SAME(true, is_filled(ref.bytes, SIZE, (uint8_t)page));
+            SAME(HZ_DONE, hz_pager_unfix(&ref));
+        }
+        change(&pager, 3, 0x33, 0x1234);
+        SAME(HZ_DONE, hz_pager_checkpoint(&pager, &lsn, &has_lsn));
+        SAME(size, pread(fd, slot, size, (off_t)(3 * size)));
+        SAME(true, is_filled(slot + head, 8, 0x33) && is_filled(slot + head + 8, SIZE - 8, 3));
+        if (format == 2) {
+            static const uint8_t wanted[16] = {3, 0, 0, 0, 0, 0, 0, 0, 0x34, 0x12};
+            SAME(0, memcmp(slot, wanted, 16));
+            SAME(1, pwrite(fd, "\7", 1, (off_t)(9 * size)));
+            REFUSED(HZ_WRONG_PAGE, 1, 9, 0, 0, hz_pager_fix(&pager, 9, HZ_SHARED, &ref));
+            SAYS("page 9: another page was found in its place, or a spoilt one");
+        }
+        SAME(0, ftruncate(fd, (off_t)(8 * size - 1))); /* page 7 is in no frame by now */
+        REFUSED(HZ_READ_FAILED, 1, 7, 0, EIO, hz_pager_fix(&pager, 7, HZ_SHARED, &ref));
+        end(&pager);
+        SAME(0, close(fd));
+    }
+    int fd = open("pager.pages", O_RDONLY);
+    SAME(HZ_BAD_SETTINGS, hz_pager_new_file(&config, fd, 0, &pager));
+    SAME(HZ_BAD_SETTINGS, hz_pager_new_file(&config, fd, 3, &pager));
+    SAME(HZ_BAD_SETTINGS, hz_pager_new_file(&config, -1, 1, &pager));
+    config.pages = 2;
+    SAME(HZ_DONE, hz_pager_new_file(&config, fd, 1, &pager));
+    change(&pager, 1, 1, 1);
+    REFUSED(HZ_WRITE_FAILED, 1, 1, 0, EBADF, hz_pager_flush(&pager, 1));
+    end(&pager);
+    SAME(0, close(fd));
+    config.pages = 0;
+    REFUSED(HZ_READ_FAILED, 0, 0, 0, EBADF, hz_pager_new_file(&config, fd, 1, &pager));
+    SAME(0, (uintptr_t)pager.own);
+}
+
+/* ---- Panics and memory ---- */
+
+/* A page takes no more than so many pins. Then all goes on. */
+static void panics(void)
+{
+    enum { MOST = 1 << 19 };
+    hz_pager pager = start();
+    hz_ref *pins = calloc(MOST + 1, sizeof *pins), ref;
+    uint16_t number = HZ_DONE;
+    size_t count = 0;
+    for (; count <= MOST && number == HZ_DONE; count++)
+        number = hz_pager_fix(&pager, 1, HZ_PINNED, &pins[count]);
+    SAME(HZ_PANICKED, number);
+    SAYS("the library found a fault of its own");
+    SAME(MOST, count - 1);
+    for (size_t i = 0; i < MOST; i++)
+        SAME(HZ_DONE, hz_pager_unfix(&pins[i]));
+    ref = fixed(&pager, 1, HZ_EXCLUSIVE);
+    SAME(HZ_DONE, hz_pager_unfix(&ref));
+    free(pins);
+    end(&pager);
+}
+
+/* Each request for memory of a pager's life is refused in turn. */
+static void *without_memory(void *argument)
+{
+    bool *was_refused = argument;
+    hz_pager_config config = usual();
+    hz_pager pager = {0};
+    hz_ref refs[3];
+    uint64_t lsn;
+    uint8_t has_lsn;
+    uint16_t number = hz_pager_new(&config, &io, &pager);
+    *was_refused |= number == HZ_OUT_OF_MEMORY;
+    if (number == HZ_OUT_OF_MEMORY)
+        SAME(HZ_DONE, hz_pager_new(&config, &io, &pager));
+    for (int i = 0; i < 3; i++) {
+        number = hz_pager_fix(&pager, (uint64_t)i, HZ_EXCLUSIVE, &refs[i]);
+        *was_refused |= number == HZ_OUT_OF_MEMORY;
+        if (number == HZ_OUT_OF_MEMORY)
+            refs[i] = fixed(&pager, (uint64_t)i, HZ_EXCLUSIVE);
+        SAME(HZ_DONE, hz_pager_put(&refs[i], 0, (const uint8_t *)"m", 1, 0));
+    }
+    number = hz_pager_put(&refs[2], 1, refs[2].bytes, SIZE - 1, 0);
+    *was_refused |= number == HZ_OUT_OF_MEMORY;
+    SAME(number == HZ_DONE ? 'm' : 2, refs[2].bytes[1]);
+    for (int i = 0; i < 3; i++)
+        SAME(HZ_DONE, hz_pager_unfix(&refs[i]));
+    number = hz_pager_checkpoint(&pager, &lsn, &has_lsn);
+    *was_refused |= number == HZ_OUT_OF_MEMORY;
+    if (number == HZ_OUT_OF_MEMORY)
+        SAME(HZ_DONE, hz_pager_checkpoint(&pager, &lsn, &has_lsn));
+    end(&pager);
+    return NULL;
+}
+
+static void memory(void)
+{
+    unsigned long last = 0, count = 0;
+    hz_pager pager = start();
+    end(&pager);
+    do {
+        bool was_refused = false;
+        for (int page = 0; page < PAGES; page++)
+            memset(device.pages[page], page, SIZE);
+        last++;
+        pthread_t thread;
+        requests = 0;
+        refused = last;
+        SAME(0, pthread_create(&thread, NULL, without_memory, &was_refused));
+        SAME(0, pthread_join(thread, NULL));
+        refused = 0;
+        count += was_refused;
+    } while (requests >= last);
+    SAME(true, count >= 10);
+}
+
+int main(void)
+{
+    errors();
+    checkpoints();
+    purges();
+    callbacks();
+    threads();
+    files();
+    panics();
+    memory();
+    return 0;
+}
