@@ -1,6 +1,7 @@
-"""The buffer pool Hojzmated, to try frames and K with.
+"""The buffer pool Hojzmated: to try frames and K with, and to use the pages of a file.
 
-What this module's own code does is tested, not proved. Below it is the library of bindings/c, which is proved.
+`count` and `sweep` count a list of references, `Pool` is a pool without a file, and `Pager` one over a page file, for
+many threads. What this module's own code does is tested, not proved. Below it are the libraries of bindings/c.
 
     >>> import hojzmated
     >>> references = [1, 2, 1, 2, 3, 4, 5, 6, 1, 2]
@@ -22,11 +23,21 @@ What this module's own code does is tested, not proved. Below it is the library 
     False 7
     Stats(hits=0, faults=2, evictions=1, writes=0, failed=0, refused=0, resident=1, pinned=0)
 
-The pool moves no bytes here: each page counts as read as soon as it is asked for, and none is written to. An engine
-calls the library itself.
+    >>> import os, tempfile
+    >>> folder = tempfile.TemporaryDirectory()
+    >>> with hojzmated.Pager(os.path.join(folder.name, "counts"), pages=100, frames=8) as pager:
+    ...     with pager.write(7) as page:            # no other thread has page 7 until this block ends
+    ...         page.put(0, b"forty-two")
+    ...     with pager.read(7) as page:
+    ...         print(bytes(page.bytes[:9]))
+    ...     pager.checkpoint()                      # all that was put is in the file now
+    b'forty-two'
+    >>> folder.cleanup()
 
-The library is looked for in $HOJZMATED_PREFIX/lib, then in the checkout of this file (`make -C bindings/c`), and then
-where the system's loader looks.
+A `Pool` moves no bytes: each page counts as read as soon as it is asked for, and none is written to.
+
+The libraries are looked for in $HOJZMATED_PREFIX/lib, then in the checkout of this file (`make -C bindings/c pager`),
+and then where the system's loader looks.
 """
 import collections
 import ctypes
@@ -34,8 +45,10 @@ import ctypes.util
 import operator
 import os
 import threading
+import weakref
 
-__all__ = ["Pool", "Page", "Refused", "Stats", "Counts", "SweepLine", "count", "sweep", "version"]
+__all__ = ["Pool", "Page", "Pager", "FixedPage", "Refused", "Stats", "PagerStats", "Counts", "SweepLine", "count",
+           "sweep", "version"]
 
 LARGEST_PERIOD = 1 << 62
 LARGEST_ROOM = 1 << 61
@@ -90,31 +103,30 @@ _FUNCTIONS = {
 }
 
 
-def _library_path():
+def _library_path(name, target):
     prefix = os.environ.get("HOJZMATED_PREFIX")
     if prefix:
-        return os.path.join(prefix, "lib", "libhojzmated.so")
+        return os.path.join(prefix, "lib", f"lib{name}.so")
     bindings = os.path.dirname(os.path.dirname(os.path.realpath(__file__)))
-    built = os.path.join(bindings, "c", "out", "lib", "libhojzmated.so")
+    built = os.path.join(bindings, "c", "out", "lib", f"lib{name}.so")
     if os.path.exists(built):
         return built
-    found = ctypes.util.find_library("hojzmated")
+    found = ctypes.util.find_library(name)
     if found is None:
-        raise ImportError("no libhojzmated.so: install it and set HOJZMATED_PREFIX, or in a checkout run "
-                          "`make -C bindings/c`")
+        raise ImportError(f"no lib{name}.so: install it and set HOJZMATED_PREFIX, or in a checkout run "
+                          f"`make -C bindings/c {target}`")
     return found
 
 
-def _loaded():
-    # The functions are short: no call gives up the interpreter's lock.
-    library = ctypes.PyDLL(_library_path())
-    for name, (result, *arguments) in _FUNCTIONS.items():
+def _with_types(library, functions):
+    for name, (result, *arguments) in functions.items():
         function = getattr(library, name)
         function.restype, function.argtypes = result, arguments
     return library
 
 
-_hz = _loaded()
+# The functions are short: no call gives up the interpreter's lock.
+_hz = _with_types(ctypes.PyDLL(_library_path("hojzmated", "all")), _FUNCTIONS)
 
 
 def _text_of(number):
@@ -124,13 +136,15 @@ def _text_of(number):
 
 
 class Refused(Exception):
-    """A refusal of the pool. It changes nothing, except that 11, 12 and 13 count as calls.
+    """A refusal of a pool or a pager. It changes nothing, except that 11, 12 and 13 count as calls of a pool.
 
-    `number` is its number in `hojzmated.h`."""
+    `number` is its number in `hojzmated.h` or `hojzmated_pager.h`. Of a pager's refusal `page` is the page, or None,
+    and `errno` what the system said of the file, or 0.
+    """
 
-    def __init__(self, number):
-        super().__init__(f"{_text_of(number)} (refusal {number})")
-        self.number = number
+    def __init__(self, number, text=None, page=None, errno=0):
+        super().__init__(f"{text or _text_of(number)} (refusal {number})")
+        self.number, self.page, self.errno = number, page, errno
 
 
 def _check(number):
@@ -280,6 +294,279 @@ class Pool:
         # A pool whose making failed may have no lock, or no core.
         if hasattr(self, "_lock"):
             self.close()
+
+
+# ---- A pager
+
+class _Pager(ctypes.Structure):
+    _fields_ = [("own", ctypes.c_void_p)]
+
+
+class _Ref(ctypes.Structure):
+    _fields_ = [("bytes", ctypes.c_void_p), ("page", ctypes.c_uint64), ("serial", ctypes.c_uint64),
+                ("slot", ctypes.c_uint32), ("how", ctypes.c_uint32)]
+
+
+class _PagerConfig(ctypes.Structure):
+    _fields_ = [("pages", ctypes.c_uint64), ("page_size", ctypes.c_size_t), ("frames", ctypes.c_size_t),
+                ("parts", ctypes.c_size_t), ("correlated", ctypes.c_uint64), ("retained", ctypes.c_uint64),
+                ("pin_wait_ms", ctypes.c_uint64), ("k", ctypes.c_uint8), ("tells_each_pin", ctypes.c_uint8)]
+
+
+class _Fault(ctypes.Structure):
+    _fields_ = [("page", ctypes.c_uint64), ("lsn", ctypes.c_uint64), ("error", ctypes.c_int32),
+                ("number", ctypes.c_uint16), ("has_page", ctypes.c_uint8)]
+
+
+class _PagerStats(ctypes.Structure):
+    _fields_ = [*((name, ctypes.c_uint64) for name in ("hits", "faults", "evictions", "writes", "failed", "refused",
+                                                       "waits")),
+                *((name, ctypes.c_size_t) for name in ("resident", "pinned", "unsaved", "memory"))]
+
+
+_PAGER, _REF, _INT, _U32 = ctypes.POINTER(_Pager), ctypes.POINTER(_Ref), ctypes.c_int, ctypes.c_uint32
+_PAGER_FUNCTIONS = {
+    "hz_pager_new_file": (_NUMBER, ctypes.POINTER(_PagerConfig), _INT, _INT, _PAGER),
+    "hz_pager_free": (_NUMBER, _PAGER),
+    "hz_pager_fix": (_NUMBER, _PAGER, _U64, _U32, _REF),
+    "hz_pager_new_page": (_NUMBER, _PAGER, _U64, _REF),
+    "hz_pager_put": (_NUMBER, _REF, _SIZE, ctypes.c_char_p, _SIZE, _U64),
+    "hz_pager_unfix": (_NUMBER, _REF),
+    "hz_pager_flush": (_NUMBER, _PAGER, _U64),
+    "hz_pager_checkpoint": (_NUMBER, _PAGER, ctypes.POINTER(_U64), ctypes.POINTER(_U8)),
+    "hz_pager_clean": (_NUMBER, _PAGER, _SIZE, ctypes.POINTER(_SIZE)),
+    "hz_pager_purge": (_NUMBER, _PAGER, ctypes.POINTER(_U64)),
+    "hz_pager_stats_of": (_NUMBER, _PAGER, ctypes.POINTER(_PagerStats)),
+    "hz_pager_is_resident": (_NUMBER, _PAGER, _U64, ctypes.POINTER(_U8)),
+    "hz_pager_fault_of": (_NUMBER, ctypes.POINTER(_Fault)),
+    "hz_pager_text": (_SIZE, ctypes.c_char_p, _SIZE),
+}
+SHARED, EXCLUSIVE, PINNED, TRY = 1, 2, 3, 16
+NO_PERIOD = (1 << 64) - 1
+HEAD = 16
+
+
+class _Library:
+    """The pager's library, which is loaded with the first pager. Its calls give up the interpreter's lock."""
+    loaded = None
+
+    @classmethod
+    def call(cls, name, *arguments):
+        """Makes a call, and raises `Refused` where it is refused."""
+        if cls.loaded is None:
+            cls.loaded = _with_types(ctypes.CDLL(_library_path("hojzmated_pager", "pager")), _PAGER_FUNCTIONS)
+        if getattr(cls.loaded, name)(*arguments):
+            raise cls.refusal()
+
+    @classmethod
+    def refusal(cls):
+        """This thread's newest refusal."""
+        fault, text = _Fault(), ctypes.create_string_buffer(256)
+        cls.loaded.hz_pager_fault_of(fault)
+        cls.loaded.hz_pager_text(text, len(text))
+        page = fault.page if fault.has_page else None
+        return Refused(fault.number, text.value.decode(errors="replace"), page, fault.error)
+
+
+PagerStats = collections.namedtuple("PagerStats", [name for name, _ in _PagerStats._fields_])
+PagerStats.__doc__ = """The counts since the pager was made, the present numbers of resident, pinned and unsaved pages,
+and the memory that the pager has, in bytes."""
+PagerStats.hit_ratio = property(lambda it: _ratio(it.hits, it.hits + it.faults), doc="Hits over hits and faults.")
+
+
+class FixedPage:
+    """A page that stays in its frame until `unfix`, or until the end of a `with`, which are for the thread that fixed
+    it.
+
+    `number` is the page. `bytes` are its bytes in place, as a `memoryview` that cannot be written to; None if the page
+    is only pinned. `numpy.frombuffer(page.bytes, dtype)` makes an array of them without a copy. All that was made of
+    `bytes`, such as slices and arrays, has to be gone before the page is unfixed: else BufferError is raised, and the
+    page stays as it was. Keep a copy (`bytes(..)`, `array.copy()`) of what is needed later.
+    """
+
+    def __init__(self, ref, page_size):
+        self._ref, self.number = ref, ref.page
+        self.bytes = self._bytes = None
+        if ref.bytes:
+            self._lend((ctypes.c_uint8 * page_size).from_address(ref.bytes))
+
+    def _lend(self, memory):
+        self.bytes, self._bytes = memoryview(memory).cast("B").toreadonly(), weakref.ref(memory)
+
+    def put(self, offset, data, lsn=0):
+        """Writes bytes into the page from the offset on. `data` is anything that has bytes in a row, such as an array.
+
+        Refused: 45 where they are not within the page, 73 for a page that is not from `write` or `new_page`.
+        """
+        data = memoryview(data).cast("B").tobytes()
+        offset, lsn = _number("offset", offset), _number("lsn", lsn)
+        _Library.call("hz_pager_put", self._ref, offset, data, len(data), lsn)
+
+    def unfix(self):
+        """Gives the page back, with its latch. Refused: 14 where it was given back already, or another thread fixed it.
+        BufferError where a slice or an array of `bytes` is still there."""
+        self._take_back()
+        try:
+            _Library.call("hz_pager_unfix", self._ref)
+        except Refused:
+            self.bytes = None
+            raise
+
+    def _take_back(self):
+        if self.bytes is None:
+            return
+        self.bytes.release()  # BufferError where an array has it
+        memory = self._bytes()
+        if memory is not None:
+            self._lend(memory)
+            raise BufferError(f"a slice of page {self.number} is still there: copy what is needed later")
+        self.bytes = None
+
+    def __enter__(self):
+        return self
+
+    def __exit__(self, *_):
+        self.unfix()
+
+    def __repr__(self):
+        how = {SHARED: "shared", EXCLUSIVE: "exclusive", PINNED: "pinned"}[self._ref.how]
+        return f"<page {self.number}, {how}>"
+
+
+class Pager:
+    """A pool for many threads over the pages of a file, with a latch on each page, which is a lock on that page alone.
+
+    `path` is the file. With `pages` it is made if it is not there, and gets pages of zeros where it has less; without,
+    it has as many as it has. `format` 1 is a file of the bytes of the pages alone, 2 has 16 bytes before each,
+    with its number and its LSN. At most `frames` pages are in memory, and LRU-`k` chooses who makes way. `correlated`
+    and `retained` are its periods, in fixes, by default an eighth of the frames and one without end. `parts` are pools
+    side by side, by default by the processors. A call waits `pin_wait` seconds where all pages that could make way are
+    pinned, and is refused with 11 then.
+
+    Threads may share a pager, and run side by side in its calls. There is no log. What was put is in the file after
+    `checkpoint`, which `close` does not call. A refusal is raised as `Refused`, and an error of the file is one, with
+    its `errno`. Only one process at a time may use a file.
+    """
+
+    def __init__(self, path, pages=None, page_size=4096, frames=1024, k=2, *, correlated=None, retained=None, parts=0,
+                 pin_wait=10.0, format=1):
+        config = _PagerConfig(
+            pages=_number("pages", pages or 0), page_size=_number("page_size", page_size),
+            frames=_number("frames", frames), parts=_number("parts", parts), correlated=_period(correlated),
+            retained=_period(retained), pin_wait_ms=max(1, int(pin_wait * 1000)), k=_number("k", k, BYTE))
+        self.page_size, self._pager, self._fd = page_size, _Pager(), None
+        self._fd = os.open(path, os.O_RDWR | os.O_CLOEXEC | (os.O_CREAT if pages else 0), 0o666)
+        try:
+            _Library.call("hz_pager_new_file", config, self._fd, format, self._pager)
+            self._fill(config.pages, HEAD if format == 2 else 0)
+        except BaseException:
+            self.close()
+            raise
+
+    def _fill(self, pages, head):
+        """Adds pages of zeros to the file, up to so many."""
+        slot = head + self.page_size
+        first = os.fstat(self._fd).st_size // slot
+        if head:
+            for page in range(first, pages):
+                os.pwrite(self._fd, page.to_bytes(8, "little").ljust(slot, b"\0"), page * slot)
+        elif first < pages:
+            os.truncate(self._fd, pages * slot)
+
+    def _fixed(self, page, how, wait=True):
+        ref = _Ref()
+        _Library.call("hz_pager_fix", self._pager, _number("page", page), how if wait else how | TRY, ref)
+        return FixedPage(ref, self.page_size)
+
+    def read(self, page, wait=True):
+        """Returns a page under its shared latch: other threads may read it too, and none writes to it.
+
+        With `wait=False` it is refused with 13 where the latch is not free. Refused: 45 for a page that the file has
+        not, 72 where this thread has a latch of the page, 17, 18, 19 where the file fails.
+        """
+        return self._fixed(page, SHARED, wait)
+
+    def write(self, page, wait=True):
+        """Returns a page under its exclusive latch, for `put`: no other thread has a latch of it. Refused: as `read`.
+        """
+        return self._fixed(page, EXCLUSIVE, wait)
+
+    def pin(self, page, wait=True):
+        """Returns a page without a latch. It stays in its frame, and can be read and written to meanwhile, by any
+        thread. With `wait=False` the call does not wait for pins of other threads."""
+        return self._fixed(page, PINNED, wait)
+
+    def new_page(self, page):
+        """Returns a page under its exclusive latch, as zeros, and does not read it. Put something there. Refused: as
+        `read`."""
+        ref = _Ref()
+        _Library.call("hz_pager_new_page", self._pager, _number("page", page), ref)
+        return FixedPage(ref, self.page_size)
+
+    def flush(self, page):
+        """Writes a page to the file, if it was put to since it was written last."""
+        _Library.call("hz_pager_flush", self._pager, _number("page", page))
+
+    def checkpoint(self):
+        """Writes all pages to the file that were put to before, and syncs it. Refused: 71 where the sync failed, 72
+        where this thread has a page from `write`."""
+        _Library.call("hz_pager_checkpoint", self._pager, _U64(), _U8())
+
+    def clean(self, most):
+        """Writes out at most so many pages that nobody has fixed, so that later calls need not. Returns how many."""
+        count = ctypes.c_size_t()
+        _Library.call("hz_pager_clean", self._pager, _number("most", most), count)
+        return count.value
+
+    def purge(self):
+        """Forgets the references of pages in no frame whose newest reference is older than the retained period. Returns
+        the number of these pages."""
+        count = _U64()
+        _Library.call("hz_pager_purge", self._pager, count)
+        return count.value
+
+    def is_resident(self, page):
+        """Returns True if the page is in a frame. Refused: 45 for a page that the file has not."""
+        is_resident = _U8()
+        _Library.call("hz_pager_is_resident", self._pager, _number("page", page), is_resident)
+        return bool(is_resident.value)
+
+    def stats(self):
+        """Returns the counts since the pager was made, and the present numbers of pages."""
+        stats = _PagerStats()
+        _Library.call("hz_pager_stats_of", self._pager, stats)
+        return PagerStats(*(getattr(stats, name) for name in PagerStats._fields))
+
+    def close(self):
+        """Frees the pager and closes the file; what was put since the last `checkpoint` may be lost. Refused: 13 while
+        a page is fixed. Each further call is refused with 50; closing it again does nothing. No other thread may be in
+        a call of it."""
+        if self._pager.own:
+            _Library.call("hz_pager_free", self._pager)
+        if self._fd is not None:
+            os.close(self._fd)
+            self._fd = None
+
+    def __enter__(self):
+        return self
+
+    def __exit__(self, *_):
+        self.close()
+
+    def __del__(self):
+        # A pager whose making failed may have no handle. One of which a page is fixed stays.
+        if hasattr(self, "_pager"):
+            try:
+                self.close()
+            except Refused:
+                pass
+
+
+def _period(fixes):
+    """Returns a period as the library has it, where 0 is for the default."""
+    if fixes is None:
+        return 0
+    return _number("a period", fixes) or NO_PERIOD
 
 
 # ---- Lists of references

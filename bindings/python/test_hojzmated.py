@@ -3,12 +3,17 @@
 What lists of references come to is compared with the cases of check/program.cases, and with peers/simulation.py, which
 shares nothing with the library.
 """
+import array
+import concurrent.futures
 import ctypes
 import doctest
 import importlib.util
 import os
+import pickle
 import re
+import tempfile
 import threading
+import time
 import unittest
 from unittest import mock
 
@@ -282,6 +287,141 @@ def load_tests(_loader, tests, _pattern):
     return tests
 
 
+def in_thread(function):
+    """Runs a function in a thread of its own. Returns what it returned, or raises what it raised."""
+    with concurrent.futures.ThreadPoolExecutor(1) as pool:
+        return pool.submit(function).result()
+
+
+class Pagers(unittest.TestCase):
+    def setUp(self):
+        self.folder = tempfile.TemporaryDirectory()
+        self.addCleanup(self.folder.cleanup)
+        self.path = os.path.join(self.folder.name, "pages")
+
+    def refused(self, number, function, *arguments, page=None, errno=0, **named):
+        with self.assertRaises(hojzmated.Refused) as caught:
+            function(*arguments, **named)
+        found = caught.exception
+        self.assertEqual((found.number, found.page, found.errno), (number, page, errno))
+        return str(found)
+
+    def pager(self, **named):
+        return hojzmated.Pager(self.path, **{"pages": 16, "page_size": 64, "frames": 4, "parts": 1, **named})
+
+    def test_pages_of_a_file(self):
+        for format, head in (1, 0), (2, 16):
+            with self.pager(format=format) as pager:
+                for number in range(16):
+                    with pager.write(number) as page:
+                        self.assertEqual(page.bytes, bytes(64))
+                        page.put(0, bytes([number]) * 8)
+                        page.put(8, array.array("Q", [number]), lsn=number)
+                        self.assertEqual(bytes(page.bytes[:9]), bytes([number]) * 9)
+                self.assertEqual(pager.stats()[:4], (0, 16, 12, 12))
+                self.assertEqual([pager.is_resident(number) for number in (0, 15)], [False, True])
+                pager.flush(15)
+                self.assertEqual(pager.clean(2), 2)
+                pager.checkpoint()
+                self.assertEqual((pager.stats().writes, pager.stats().unsaved), (16, 0))
+                self.assertEqual(pager.purge(), 0)
+            with open(self.path, "rb") as file:
+                for number in range(16):
+                    slot = file.read(head + 64)
+                    self.assertEqual(slot[:head], b"".join(it.to_bytes(8, "little") for it in (number, number))[:head])
+                    self.assertEqual(slot[head:head + 16], bytes([number]) * 9 + bytes(7))
+                self.assertEqual(file.read(), b"")
+            with self.pager(pages=None, format=format) as pager:
+                self.refused(45, pager.read, 16, page=16)
+                with pager.new_page(3) as page:
+                    self.assertEqual(bytes(page.bytes), bytes(64))
+                    page.put(0, b"new")
+                pager.checkpoint()
+            os.remove(self.path)
+
+    def test_bytes_end_with_the_latch(self):
+        with self.pager() as pager:
+            with pager.read(1) as page:
+                lent = page.bytes
+                with self.assertRaises(TypeError):
+                    lent[0] = 1
+            self.assertRaises(ValueError, lambda: lent[0])
+            self.assertIsNone(page.bytes)
+            # A slice, another form of the same bytes, one more view, and what takes the bytes as an array does.
+            for kept in lambda it: it[2:6], lambda it: it.cast("Q"), memoryview, pickle.PickleBuffer:
+                page = pager.write(2)
+                other = kept(page.bytes)
+                self.assertRaises(BufferError, page.unfix)
+                self.assertEqual((len(page.bytes), bytes(other)[:4]), (64, bytes(4)))
+                self.refused(13, pager.close)
+                del other
+                page.unfix()
+            self.assertFalse(pager.stats().pinned)
+            with pager.pin(2) as page:
+                self.assertIsNone(page.bytes)
+                self.assertEqual(repr(page), "<page 2, pinned>")
+
+    def test_refusals(self):
+        pager = self.pager(pin_wait=0.01)
+        with pager.read(1) as page:
+            self.refused(73, page.put, 0, b"x", page=1)
+            self.assertIn("latch that this thread has", self.refused(72, pager.write, 1))
+            self.refused(14, in_thread, page.unfix)
+            self.refused(13, in_thread, lambda: pager.write(1, wait=False), page=1)
+            in_thread(lambda: pager.read(1, wait=False).unfix())
+        self.refused(14, page.unfix)
+        with pager.write(1) as page:
+            self.refused(45, page.put, 63, b"xy", page=1)
+            self.refused(72, pager.checkpoint)
+            self.refused(72, pager.flush, 1)
+        pins = [pager.pin(number, wait=False) for number in range(4)]
+        self.refused(11, pager.read, 9, page=9)
+        for pin in pins:
+            pin.unfix()
+        os.truncate(self.path, 64)
+        self.assertIn("it could not be read", self.refused(17, pager.read, 9, page=9, errno=5))
+        for number in -1, 1 << 64:
+            self.assertRaises(ValueError, pager.read, number)
+        pager.close()
+        pager.close()
+        for call in pager.checkpoint, pager.stats, pager.purge, lambda: pager.read(1), lambda: pager.is_resident(1):
+            self.refused(50, call)
+        self.refused(2, self.pager, k=17)
+        self.refused(2, self.pager, format=3)
+        self.refused(1, self.pager, page_size=20)
+        self.assertRaises(FileNotFoundError, hojzmated.Pager, self.path + ".none")
+
+    # A thread that waits for a latch lets others go on, else this would not end.
+    def test_threads_wait_side_by_side(self):
+        with self.pager(page_size=64) as pager, concurrent.futures.ThreadPoolExecutor(8) as pool:
+            def add():
+                for number in range(200):
+                    with pager.write(number % 16) as page:
+                        count = int.from_bytes(page.bytes[:8], "little") + 1
+                        time.sleep(0)
+                        page.put(0, count.to_bytes(8, "little"))
+
+            for done in [pool.submit(add) for _ in range(8)]:
+                done.result()
+            page = pager.write(0)
+            waiting = pool.submit(lambda: pager.read(0).unfix())
+            self.assertRaises(concurrent.futures.TimeoutError, waiting.result, timeout=0.1)
+            page.unfix()
+            waiting.result()
+            counts = []
+            for number in range(16):
+                with pager.read(number) as page:
+                    counts.append(int.from_bytes(page.bytes[:8], "little"))
+            self.assertEqual(sum(counts), 1600)
+
+    # A pager of which nothing is known any more is freed, and its file closed.
+    def test_forgotten_pager(self):
+        pager = self.pager()
+        fd = pager._fd
+        del pager
+        self.assertRaises(OSError, os.fstat, fd)
+
+
 class Library(unittest.TestCase):
     def test_version(self):
         header = text_of("include", "hojzmated.h")
@@ -290,19 +430,32 @@ class Library(unittest.TestCase):
         with mock.patch.object(hojzmated._hz, "hz_version", return_value=20_304):
             self.assertEqual(hojzmated.version(), (2, 3, 4))
 
-    # Each struct and field lies where peers/c/layout.c says that the header has it. No page is unsaved here.
+    # Each struct and field lies where peers/c/layout.c says that the header has it, and layout_pager.c of the pager. No
+    # page of a pool is unsaved here, and no pager calls back.
     def test_layout(self):
-        text = text_of("peers", "c", "layout.c")
-        types = {"hz_core": hojzmated._Core, "hz_config": hojzmated._Config, "hz_grant": hojzmated._Grant,
-                 "hz_fixed": hojzmated._Fixed, "hz_stats": hojzmated._Stats}
-        sizes = dict(re.findall(r"^HOLDS\(sizeof\((hz_(?!unsaved)\w+)\) == (\d+)\);", text, re.MULTILINE))
+        self.lies("layout.c", "unsaved", {
+            "hz_core": hojzmated._Core, "hz_config": hojzmated._Config, "hz_grant": hojzmated._Grant,
+            "hz_fixed": hojzmated._Fixed, "hz_stats": hojzmated._Stats})
+        self.lies("layout_pager.c", "io", {
+            "hz_pager": hojzmated._Pager, "hz_ref": hojzmated._Ref, "hz_pager_config": hojzmated._PagerConfig,
+            "hz_pager_fault": hojzmated._Fault, "hz_pager_stats": hojzmated._PagerStats})
+
+    def lies(self, layout, unused, types):
+        text = text_of("peers", "c", layout)
+        sizes = dict(re.findall(rf"^HOLDS\(sizeof\((hz_(?!{unused})\w+)\) == (\d+)\);", text, re.MULTILINE))
         self.assertEqual({name: str(ctypes.sizeof(it)) for name, it in types.items()}, sizes)
-        wanted = re.findall(r"^LIES\((hz_(?!unsaved)\w+), (\w+), (\d+), (\d+)\);", text, re.MULTILINE)
+        wanted = re.findall(rf"^LIES\((hz_(?!{unused})\w+), (\w+), (\d+), (\d+)\);", text, re.MULTILINE)
         found = [
             (name, field, str(getattr(it, field).offset), str(getattr(it, field).size))
             for name, it in types.items() for field, _ in it._fields_
         ]
         self.assertEqual(found, wanted)
+
+    # The numbers of the pager's header.
+    def test_numbers(self):
+        header = text_of("include", "hojzmated_pager.h")
+        for name in "SHARED", "EXCLUSIVE", "PINNED", "TRY":
+            self.assertIn(f" HZ_{name} = {getattr(hojzmated, name)},", header)
 
 
 if __name__ == "__main__":
