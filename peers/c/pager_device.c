@@ -151,6 +151,61 @@ static void purges(void)
     end(&pager);
 }
 
+static void use(const hz_pager *pager, uint64_t page)
+{
+    hz_ref ref = fixed(pager, page, HZ_SHARED);
+    SAME(HZ_DONE, hz_pager_unfix(&ref));
+}
+
+static bool is_resident(const hz_pager *pager, uint64_t page)
+{
+    uint8_t flag = ODD;
+    SAME(HZ_DONE, hz_pager_is_resident(pager, page, &flag));
+    return flag;
+}
+
+/* Page 0 was used at 1 and 3, and page 1 at 2. By the default period of two fixes both uses of page 0 are one, so it is
+ * the older one. */
+static void periods(void)
+{
+    for (int has_period = 0; has_period < 2; has_period++) {
+        hz_pager_config config = usual();
+        hz_pager pager = {0};
+        int fd = open("pager.pages", O_RDWR | O_CREAT | O_TRUNC, 0600);
+        SAME(0, ftruncate(fd, 17 * SIZE));
+        config.pages = 17, config.frames = 16, config.k = 1;
+        config.correlated = has_period ? 0 : HZ_NO_PERIOD;
+        SAME(HZ_DONE, hz_pager_new_file(&config, fd, 1, &pager));
+        use(&pager, 0), use(&pager, 1), use(&pager, 0);
+        for (uint64_t page = 2; page < 17; page++)
+            use(&pager, page);
+        SAME(!has_period, is_resident(&pager, 0));
+        SAME(has_period, is_resident(&pager, 1));
+        end(&pager);
+        SAME(0, close(fd));
+    }
+}
+
+/* Page 0 is pinned at 1 and used at 4 and 5, and page 1 is used at 2 and 3. If both uses of the pinned page are told,
+ * its last but one is the newer. */
+static void pins_that_are_told(void)
+{
+    for (uint8_t tells = 0; tells < 2; tells++) {
+        hz_pager_config config = usual();
+        hz_pager pager = start();
+        end(&pager);
+        config.frames = 2, config.tells_each_pin = tells;
+        SAME(HZ_DONE, hz_pager_new(&config, &io, &pager));
+        hz_ref pin = fixed(&pager, 0, HZ_PINNED);
+        use(&pager, 1), use(&pager, 1), use(&pager, 0), use(&pager, 0);
+        SAME(HZ_DONE, hz_pager_unfix(&pin));
+        use(&pager, 2);
+        SAME(tells, is_resident(&pager, 0));
+        SAME(!tells, is_resident(&pager, 1));
+        end(&pager);
+    }
+}
+
 /* ---- Callbacks ---- */
 
 static hz_pager beside;      /* another pager */
@@ -419,6 +474,8 @@ int main(void)
     errors();
     checkpoints();
     purges();
+    periods();
+    pins_that_are_told();
     callbacks();
     threads();
     files();
