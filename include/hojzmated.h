@@ -191,7 +191,8 @@ uint16_t hz_flush(hz_core *core, uint8_t client, uint64_t page, uint8_t *buffer,
  * Refused: HZ_BAD_CLIENT, HZ_TRAIL_FULL. */
 uint16_t hz_purge(hz_core *core, uint8_t client, uint64_t *count);
 
-/* The calls from here to hz_is_resident only tell, and are no calls that the room counts.
+/* The calls from here to hz_is_resident only tell, and are no calls that the room counts. They need your lock as the
+ * others do: what a core has inside may change, though it tells the same.
  *
  * Tells the page LSN of a pass's page: the greatest LSN of its writes since it was read, or 0. Refused:
  * HZ_UNKNOWN_PASS. */
@@ -201,8 +202,8 @@ uint16_t hz_page_lsn(const hz_core *core, const hz_grant *pass, uint64_t *lsn);
 uint16_t hz_next_unsaved(const hz_core *core, uint64_t from, hz_unsaved *out);
 
 /* Tells the page whose frame the next hz_fix takes, if that is of a page that is away: an unsaved one is written out
- * first, and where the log is not durable up to its page LSN that fix is refused with 12. has_page gets 1, or 0 where a
- * frame is free or no page may leave; page gets 0 then. */
+ * first, and where the log is not durable up to its page LSN that fix is refused with HZ_NEED_LOG. has_page gets 1, or
+ * 0 where a frame is free or no page may leave; page gets 0 then. */
 uint16_t hz_victim(const hz_core *core, uint64_t *page, uint8_t *has_page);
 
 /* Tells from where redo has to begin: the least LSN of all writes that are in no image on the device, one of LSN 0 too.
