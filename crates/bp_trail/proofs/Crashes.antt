@@ -1,23 +1,24 @@
 -- A checkpoint, redo that is cut off, a second crash, and pages that are torn.
-use Rattle.std.proofs.Common.{◌≡◌, ◌⊎◌, inl, inr, refl, sym, ap, subst, ◌∙◌, ℕ, min, ◌≤◌, nat_le, Bool, true, false, ◌==◌, if◌then◌else◌, cond, ◌↔◌, Contains, List, [], ◌∷◌, ◌++◌, length, take, drop, reverse, get_or, suc, ◌<◌, Option, Some, None, arith}
+use Rattle.std.proofs.Common.{◌≡◌, ◌⊎◌, inl, inr, refl, sym, ap, subst, ◌∙◌, ℕ, min, ◌≤◌, nat_le, Bool, true, false, ◌&&◌, ◌==◌, if◌then◌else◌, cond, ◌↔◌, Contains, List, [], ◌∷◌, ◌++◌, length, take, drop, reverse, get_or, suc, ◌<◌, Option, Some, None, arith}
 use Rattle.std.proofs.lemmas.List.{take-append-drop, reverse-append}
 use Rattle.std.proofs.Math.Seq.{drop-cons}
 use Rattle.std.proofs.lemmas.List.Elements.{filter-append}
 use Rattle.std.proofs.lemmas.Option.{none-some}
-use Rattle.std.proofs.lemmas.Bool.{eqb-true, and_from, leb-true, le-leb}
+use Rattle.std.proofs.lemmas.Bool.{eqb-true, or_parts, and_from, leb-true, le-leb}
 use Rattle.bp_trail.specs.declared.entries.Entry.{Entry}
 use Rattle.bp_trail.specs.declared.entries.Reply.{Reply}
 use Rattle.bp_trail.specs.declared.entries.Reply.TheVariants.{WriteFirst}
 use Rattle.bp_trail.specs.declared.records.LogRecord.{LogRecord}
 use Rattle.bp_trail.specs.Parameters.{Parameters}
-use Rattle.bp_trail.specs.Lists.{every, or_less, least_since}
-use Rattle.bp_trail.specs.Event.{lsn_of, lsn_written, begins_of}
+use Rattle.bp_trail.specs.Lists.{some, every, or_less, least_since}
+use Rattle.bp_trail.specs.Event.{lsn_of, lsn_written, begins_of, ends_well}
 use Rattle.bp_trail.specs.Trail.{Trail}
 use Rattle.bp_trail.specs.Clock.{durable}
 use Rattle.bp_trail.specs.Saved.{began_saving, first_lsn, IsRedoFrom}
 use Rattle.bp_trail.specs.Legal.{Legal}
+use Rattle.bp_trail.specs.Standing.{Content}
 use Rattle.bp_trail.specs.Device.{HonestOf}
-use Rattle.bp_trail.specs.Recovery.{wanted, records, within, records_from, NeverFall, AllFit, BeginsWithFullImage, put, redo, WentOut, NoneSafe, MayHave, AppliesAlike, apply_all, MakesAnew, Recovers, GaveBack, IsRedoPoint, LogHas, Stopped, redo_point, WritesFrom}
+use Rattle.bp_trail.specs.Recovery.{wanted, records, within, records_from, NeverFall, AllFit, FirstMisfit, HasFullImage, put, redo, WentOut, NoneSafe, MayHave, MayHaveStamped, AppliesAlike, apply_all, MakesAnew, Recovers, GaveBack, IsRedoPoint, LogHas, Stopped, redo_point, WritesFrom}
 use Rattle.bp_trail.specs.Recovery.GaveBack.{from_opening, since_used_again}
 use Rattle.bp_trail.specs.Places.{resident}
 use Rattle.bp_trail.specs.Images.{held, plain_map}
@@ -44,17 +45,49 @@ point-next : (o : Option ℕ) (next : ℕ) → redo_point o next ≤ next
 point-next None next = omega arith
 point-next (Some a) next = omega arith
 
-pub checkpoint : (synced late : Trail) (o : Option ℕ) (next p : ℕ) → IsRedoFrom synced o → WritesFrom next late → IsRedoPoint (redo_point o next) synced (late ++ synced) p
+pub checkpoint : (synced late : Trail) (o : Option ℕ) (next p : ℕ) → IsRedoFrom synced o → WritesFrom next p late → IsRedoPoint (redo_point o next) synced (late ++ synced) p
 checkpoint synced [] o next p redo_from from = asked synced o next p redo_from
 checkpoint synced (e ∷ late) o next p redo_from from =
     least-from (redo_point o next) (lsn_written p e) (if began_saving synced p e.reply then None else least_since (lsn_written p) (λ d. began_saving synced p d.reply) (late ++ synced))
-    (λ lsn is. (let a = from.here p lsn is in let b = point-next o next in omega arith))
+    (λ lsn is. (let a = from.here lsn is in let b = point-next o next in omega arith))
     (go (began_saving synced p e.reply) (checkpoint synced late o next p redo_from from.before))
   where
     go : (b : Bool) → AtLeast (redo_point o next) (least_since (lsn_written p) (λ d. began_saving synced p d.reply) (late ++ synced))
         → AtLeast (redo_point o next) (if b then None else least_since (lsn_written p) (λ d. began_saving synced p d.reply) (late ++ synced))
     go true h = λ n e. cc
     go false h = h
+
+-- of an older sync the device may have all that it may have of a newer one
+none-saved : (newer synced : Trail) (f : Entry → Bool) → some f (newer ++ synced) ≡ false → some f synced ≡ false
+none-saved [] synced f h = h
+none-saved (e ∷ newer) synced f h = none-saved newer synced f (or_parts (f e) _ h).1
+
+older-saving : (newer synced : Trail) (p : ℕ) (r : Reply) → began_saving (newer ++ synced) p r ≡ false → began_saving synced p r ≡ false
+older-saving newer synced p (WriteFirst t q image) h = go (q == p) h
+  where
+    go : (b : Bool) → (b && some (λ e. ends_well t e.call) (newer ++ synced)) ≡ false → (b && some (λ e. ends_well t e.call) synced) ≡ false
+    go true h = none-saved newer synced (λ e. ends_well t e.call) h
+    go false h = refl
+older-saving newer synced p _ h = refl
+
+older-safe : (newer synced later : Trail) (p : ℕ) → some (λ e. began_saving (newer ++ synced) p e.reply) later ≡ false → some (λ e. began_saving synced p e.reply) later ≡ false
+older-safe newer synced [] p h = refl
+older-safe newer synced (e ∷ later) p h =
+    let a = or_parts (began_saving (newer ++ synced) p e.reply) _ h in
+    rw (older-saving newer synced p e.reply a.0) (older-safe newer synced later p a.1)
+
+older-out : (newer synced past : Trail) (p : ℕ) → WentOut (newer ++ synced) past p → WentOut synced past p
+older-out newer synced past p w = record { later = w.later; entry = w.entry; earlier = w.earlier; ticket = w.ticket; image = w.image; stands = w.stands; begins = w.begins; last = older-safe newer synced w.later p w.last }
+
+pub older-sync : (first : ℕ → List ℕ) (newer synced past : Trail) (p : ℕ) (image : List ℕ) → MayHave first (newer ++ synced) past p image → MayHave first synced past p image
+unfolding older-out
+older-sync first newer synced past p image (inl (out, is)) = inl (older-out newer synced past p out, is)
+older-sync first newer synced past p image (inr (none, is)) = inr (older-safe newer synced past p none, is)
+
+pub older-sync_stamped : (first : ℕ → Content) (newer synced past : Trail) (p : ℕ) (x : Content) → MayHaveStamped first (newer ++ synced) past p x → MayHaveStamped first synced past p x
+unfolding older-out
+older-sync_stamped first newer synced past p x (inl (out, is)) = inl (older-out newer synced past p out, is)
+older-sync_stamped first newer synced past p x (inr (none, is)) = inr (older-safe newer synced past p none, is)
 
 -- ---- the log grows
 
@@ -101,11 +134,14 @@ redo-cut_off newer older from p image fit =
 
 -- ---- pages that are torn
 
--- where all bytes of the page are in the oldest record, redo reads nothing of the image
-pub redo-whole : (log : List LogRecord) (from p : ℕ) (a b : List ℕ) → BeginsWithFullImage (length a) (records_from from log p) → length b ≡ length a → redo from log p a ≡ redo from log p b
+-- where all bytes of the page are in one record, redo reads nothing of the image
+pub full-bytes : (full : LogRecord) (older : List LogRecord) (size : ℕ) (x : List ℕ) → full.offset ≡ 0 → length full.bytes ≡ size → AllFit size older → length x ≡ size → put (full ∷ older) x ≡ full.bytes
+full-bytes full older size x z long fit is = patched-whole full.offset full.bytes (put older x) z (long ∙ sym (length-put size older x fit is))
+
+pub redo-whole : (log : List LogRecord) (from p : ℕ) (a b : List ℕ) → HasFullImage (length a) (records_from from log p) → length b ≡ length a → redo from log p a ≡ redo from log p b
 redo-whole log from p a b w same =
-    let at : (x : List ℕ) → length x ≡ length a → redo from log p x ≡ put w.newer w.oldest.bytes =
-    λ x i. ap (λ rs. put rs x) w.stands ∙ put-append w.newer (w.oldest ∷ []) x ∙ ap (put w.newer) (patched-whole w.oldest.offset w.oldest.bytes x w.offset (w.bytes ∙ sym i)) in
+    let at : (x : List ℕ) → length x ≡ length a → redo from log p x ≡ put w.newer w.full.bytes =
+    λ x i. ap (λ rs. put rs x) w.stands ∙ put-append w.newer (w.full ∷ w.older) x ∙ ap (put w.newer) (full-bytes w.full w.older (length a) x w.offset w.bytes w.fit i) in
     at a refl ∙ sym (at b same)
 
 begun-not : (synced : Trail) (p : ℕ) (r : Reply) → begins_of p r ≡ false → began_saving synced p r ≡ false
@@ -141,7 +177,7 @@ image-length c first synced end past p image l (since_used_again u) (inl (out, i
 image-length c first synced end past p image l g (inr (none, is)) = ap length is
 
 pub recovers-torn : (c : Parameters) (first : ℕ → List ℕ) (synced past : Trail) (log : List LogRecord) (start from end p : ℕ) (torn : List ℕ)
-    → Stopped c first synced past log start from end p → NeverFall (records_from start log p) → BeginsWithFullImage (length torn) (records_from from log p) → length torn ≡ length (first p)
+    → Stopped c first synced past log start from end p → NeverFall (records_from start log p) → HasFullImage (length torn) (records_from from log p) → length torn ≡ length (first p)
     → redo from log p torn ≡ redo start log p (first p)
 recovers-torn c first synced past log start from end p torn s rises w long = go (some-out synced p past)
   where
@@ -212,30 +248,45 @@ fit-at size from p log i r below is fit =
     let all = subst (AllFit size) (ap (λ rs. records_from from rs p) cut ∙ parts) fit in
     (fit-parts size (records_from from (reverse rest) p) (records_from from (r ∷ []) p) (fit-parts size (records_from from (reverse rest) p ++ records_from from (r ∷ []) p) (records_from from (reverse (take i log)) p) all).0).1
 
+-- and where one does not
+pub first-misfit : (size from p : ℕ) (log : List LogRecord) (i : ℕ) (r : LogRecord) (first image : List ℕ) → i < length log → r ≡ get_or log i r → AllFit size (records_from from (reverse (take i log)) p)
+    → ¬ AllFit size (records_from from (r ∷ []) p) → image ≡ redo from (reverse (take i log)) p first → (m : FirstMisfit size from p log) × (image ≡ redo from (reverse m.before) p first)
+first-misfit size from p log i r first image below is fit beyond made = (
+  record {
+    before = take i log;
+    misfit = r;
+    rest = drop (suc i) log;
+    stands = sym (take-append-drop i log) ∙ ap (λ xs. take i log ++ xs) (drop-cons log i r below ∙ ap (λ (x : LogRecord). x ∷ drop (suc i) log) (sym is));
+    fit = fit;
+    beyond = beyond;
+  },
+  made,
+)
+
 -- ---- redo from the log alone
 
-applied-anew : (apply : LogRecord → List ℕ → List ℕ) (newer rest : List LogRecord) (oldest : LogRecord) (first image : List ℕ) → AppliesAlike apply (newer ++ oldest ∷ rest) first → apply oldest image ≡ put (oldest ∷ rest) first
-    → apply_all apply (newer ++ oldest ∷ []) image ≡ put (newer ++ oldest ∷ rest) first
-applied-anew apply [] rest oldest first image alike anew = anew
-applied-anew apply (r ∷ newer) rest oldest first image alike anew = ap (apply r) (applied-anew apply newer rest oldest first image alike.before anew) ∙ alike.here
+applied-anew : (apply : LogRecord → List ℕ → List ℕ) (newer older rest : List LogRecord) (full : LogRecord) (first image : List ℕ) → AppliesAlike apply (newer ++ full ∷ rest) first → apply full (apply_all apply older image) ≡ put (full ∷ rest) first
+    → apply_all apply (newer ++ full ∷ older) image ≡ put (newer ++ full ∷ rest) first
+applied-anew apply [] older rest full first image alike anew = anew
+applied-anew apply (r ∷ newer) older rest full first image alike anew = ap (apply r) (applied-anew apply newer older rest full first image alike.before anew) ∙ alike.here
 
 pub redo-alone : (apply : LogRecord → List ℕ → List ℕ) (first : ℕ → List ℕ) (past : Trail) (log : List LogRecord) (start from end p : ℕ) (image : List ℕ)
-    → (h : LogHas log start from end past p) → AppliesAlike apply (records_from start log p) (first p) → MakesAnew apply log start from p (first p)
+    → (h : LogHas log start from end past p) → AppliesAlike apply (records_from start log p) (first p) → MakesAnew apply log start from p (first p) image
     → apply_all apply (records_from from log p) image ≡ put h.unwritten (plain_map first (within end past) p)
 redo-alone apply first past log start from end p image h alike w =
     ap (λ rs. apply_all apply rs image) w.needed
-    ∙ applied-anew apply w.newer w.rest w.oldest (first p) image (subst (λ rs. AppliesAlike apply rs (first p)) w.all alike) (w.anew image)
+    ∙ applied-anew apply w.newer w.older w.rest w.full (first p) image (subst (λ rs. AppliesAlike apply rs (first p)) w.all alike) w.anew
     ∙ ap (λ rs. put rs (first p)) (sym w.all)
     ∙ redo-plain first past log start from end p h
 
 -- ---- a checkpoint, and a crash after it
 
-pub checkpoint-recovers : (c : Parameters) (first : ℕ → List ℕ) (synced late : Trail) (log : List LogRecord) (least : Option ℕ) (next end p : ℕ) (image : List ℕ)
+pub checkpoint-recovers : (c : Parameters) (first : ℕ → List ℕ) (synced late : Trail) (log : List LogRecord) (least : Option ℕ) (start next end p : ℕ) (image : List ℕ)
     → Legal c (late ++ synced) → GaveBack c.size first end (late ++ synced) p → durable (late ++ synced) ≤ end
-    → (h : LogHas log 0 (redo_point least next) end (late ++ synced) p) → NeverFall (records_from 0 log p)
-    → IsRedoFrom synced least → WritesFrom next late → MayHave first synced (late ++ synced) p image
+    → (h : LogHas log start (redo_point least next) end (late ++ synced) p) → start ≤ redo_point least next → NeverFall (records_from start log p)
+    → IsRedoFrom synced least → WritesFrom next p late → MayHave first synced (late ++ synced) p image
     → redo (redo_point least next) log p image ≡ put h.unwritten (plain_map first (within end (late ++ synced)) p)
-checkpoint-recovers c first synced late log least next end p image l g mark h rises redo_from from may =
-    recovers-plain c first synced (late ++ synced) log 0 (redo_point least next) end p image
-    (record { legal = l; gave_back = g; mark = mark; has = h; from_start = omega arith; point = checkpoint synced late least next p redo_from from })
+checkpoint-recovers c first synced late log least start next end p image l g mark h le rises redo_from from may =
+    recovers-plain c first synced (late ++ synced) log start (redo_point least next) end p image
+    (record { legal = l; gave_back = g; mark = mark; has = h; from_start = le; point = checkpoint synced late least next p redo_from from })
     rises may

@@ -81,7 +81,7 @@ has-again c first synced end past p out l u =
 
 -- ---- redo over an image that is older
 
-within-fit : (size p end : ℕ) (past : Trail) → AllFit size (records p past) → AllFit size (records p (within end past))
+pub within-fit : (size p end : ℕ) (past : Trail) → AllFit size (records p past) → AllFit size (records p (within end past))
 within-fit size p end [] f = f
 within-fit size p end (e ∷ past) f = go (writes p e) refl (nat_le (lsn_of e.call) end) f (within-fit size p end past)
   where
@@ -203,13 +203,13 @@ pub recovers-plain : (c : Parameters) (first : ℕ → List ℕ) (synced past : 
 recovers-plain c first synced past log start from end p image s rises may = recovers c first synced past log start from end p image s rises may ∙ redo-plain first past log start from end p s.has
 
 -- the whole log, in whatever order its LSNs are
-pub recovers-whole : (c : Parameters) (first : ℕ → List ℕ) (past : Trail) (log : List LogRecord) (end p : ℕ) (image : List ℕ)
-    → Legal c past → GaveBack c.size first end past p → durable past ≤ end → records_from 0 log p ≡ records p (within end past) → MayHave first past past p image
+pub recovers-whole : (c : Parameters) (first : ℕ → List ℕ) (synced past : Trail) (log : List LogRecord) (end p : ℕ) (image : List ℕ)
+    → Legal c past → GaveBack c.size first end past p → durable past ≤ end → records_from 0 log p ≡ records p (within end past) → MayHave first synced past p image
     → redo 0 log p image ≡ plain_map first (within end past) p
-recovers-whole c first past log end p image l g mark stands may =
+recovers-whole c first synced past log end p image l g mark stands may =
     let has : LogHas log 0 0 end past p = record { unwritten = []; stands = stands; unwritten_from = refl } in
-    let s : Stopped c first past past log 0 0 end p = record { legal = l; gave_back = g; mark = mark; has = has; from_start = omega arith; point = λ least e. omega arith } in
-    recovers-ordered c first past past log 0 0 end p image s (ordered-zero (records_from 0 log p)) may ∙ redo-plain first past log 0 0 end p has
+    let s : Stopped c first synced past log 0 0 end p = record { legal = l; gave_back = g; mark = mark; has = has; from_start = omega arith; point = λ least e. omega arith } in
+    recovers-ordered c first synced past log 0 0 end p image s (ordered-zero (records_from 0 log p)) may ∙ redo-plain first past log 0 0 end p has
 
 -- a page that is used again
 pub recovers-again : (c : Parameters) (first : ℕ → List ℕ) (synced past : Trail) (log : List LogRecord) (start from end p : ℕ) (image : List ℕ)

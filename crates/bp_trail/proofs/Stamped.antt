@@ -1,6 +1,7 @@
 -- Redo by page LSN: an image has the writes up to its page LSN, and no others.
-use Rattle.std.proofs.Common.{◌≡◌, inl, inr, refl, sym, ap, subst, ◌∙◌, ℕ, ◌+◌, max, ◌≤◌, ◌<◌, nat_lt, nat_le, Bool, true, false, not, ◌&&◌, ◌||◌, ◌==◌, if◌then◌else◌, cond, List, [], ◌∷◌, ◌++◌, filter, filter_map, append_assoc, append-nil, unwrap_or, Some, None, arith}
+use Rattle.std.proofs.Common.{◌≡◌, inl, inr, refl, sym, ap, subst, ◌∙◌, ℕ, ◌+◌, max, ◌≤◌, ◌<◌, nat_lt, nat_le, Bool, true, false, not, ◌&&◌, ◌||◌, ◌==◌, if◌then◌else◌, cond, List, [], ◌∷◌, ◌++◌, length, filter, filter_map, append_assoc, append-nil, unwrap_or, Some, None, arith}
 use Rattle.std.specs.List.{cons_option}
+use Rattle.std.proofs.lemmas.List.Elements.{filter-append}
 use Rattle.std.proofs.lemmas.Bool.{eqb-true, eq-eqb, and_parts, and_from, ltb-true, ltb-false, lt-ltb, le-ltb, leb-true, leb-false, le-leb, lt-leb, cases_lt, false_from_ne_true}
 use Rattle.bp_page.specs.Patched.{patched}
 use Rattle.bp_trail.specs.declared.entries.Entry.{Entry}
@@ -16,7 +17,7 @@ use Rattle.bp_trail.specs.Places.{resident}
 use Rattle.bp_trail.specs.Saved.{began_saving, unsaved, page_lsn}
 use Rattle.bp_trail.specs.Legal.{Legal}
 use Rattle.bp_trail.specs.Standing.{Content}
-use Rattle.bp_trail.specs.Recovery.{record_of, records, within, records_from, Rise, patch, put, apply_newer, apply_all_newer, redo, redo_by_lsn, AppliesAlike, GaveBack, TellsNew, MayHaveStamped, Stopped}
+use Rattle.bp_trail.specs.Recovery.{record_of, records, within, wanted, records_from, AllFit, Rise, patch, put, apply_newer, apply_all_newer, redo, redo_by_lsn, AppliesAlike, GaveBack, TellsNew, MayHaveStamped, Stopped}
 use Rattle.bp_trail.specs.Recovery.GaveBack.{from_opening, since_used_again}
 use Rattle.bp_trail.proofs.Lists.{greatest-with}
 use Rattle.bp_trail.proofs.Events.{Event, event-of}
@@ -24,9 +25,9 @@ use Rattle.bp_trail.proofs.Events.Event.{fix_write, flush_write, read_good, page
 use Rattle.bp_trail.proofs.Places.{places, out-of_page, unsaved-ended}
 use Rattle.bp_trail.proofs.WriteAhead.{written_lsn}
 use Rattle.bp_trail.proofs.Logged.{each_before}
-use Rattle.bp_trail.proofs.Bytes.{from_lsn, none-older, put-append}
+use Rattle.bp_trail.proofs.Bytes.{length-patched, patched-whole, from_lsn, none-older, put-append}
 use Rattle.bp_trail.proofs.Recovered.{record-lsn, every-within, AtLeast, later-from, wanted-split, legal-there, split}
-use Rattle.bp_trail.proofs.Redoing.{HasRecords, Overwritten, has-records, has-again, over-newer, over-between, over-cut, over-put}
+use Rattle.bp_trail.proofs.Redoing.{HasRecords, Overwritten, has-records, has-again, over-newer, over-between, over-cut, over-put, within-fit}
 
 abbrev entry : ℕ → Call → Reply → Entry
 entry who call reply = record { client = who; call = call; reply = reply }
@@ -162,16 +163,16 @@ every-filtered f g (x ∷ xs) h = let a = and_parts (f x) (every f xs) h in go (
     go true i ih = and_from (f x) _ i ih
     go false i ih = ih
 
-rise-front : (newer older : List LogRecord) → Rise (newer ++ older) → Rise newer
+pub rise-front : (newer older : List LogRecord) → Rise (newer ++ older) → Rise newer
 rise-front [] older h = tt
 rise-front (r ∷ newer) older h = record { here = (every-append (λ o. nat_lt o.lsn r.lsn) newer older h.here).0; before = rise-front newer older h.before }
 
-apply_all_newer-append : (apply : LogRecord → List ℕ → List ℕ) (newer older : List LogRecord) (x : Content) → apply_all_newer apply (newer ++ older) x ≡ apply_all_newer apply newer (apply_all_newer apply older x)
+pub apply_all_newer-append : (apply : LogRecord → List ℕ → List ℕ) (newer older : List LogRecord) (x : Content) → apply_all_newer apply (newer ++ older) x ≡ apply_all_newer apply newer (apply_all_newer apply older x)
 apply_all_newer-append apply [] older x = refl
 apply_all_newer-append apply (r ∷ newer) older x = ap (apply_newer apply r) (apply_all_newer-append apply newer older x)
 
 -- records that the page has
-passed-over : (apply : LogRecord → List ℕ → List ℕ) (rs : List LogRecord) (x : Content) → every (λ r. nat_le r.lsn x.page_lsn) rs ≡ true → apply_all_newer apply rs x ≡ x
+pub passed-over : (apply : LogRecord → List ℕ → List ℕ) (rs : List LogRecord) (x : Content) → every (λ r. nat_le r.lsn x.page_lsn) rs ≡ true → apply_all_newer apply rs x ≡ x
 passed-over apply [] x h = refl
 passed-over apply (r ∷ rs) x h =
     let a = and_parts (nat_le r.lsn x.page_lsn) _ h in
@@ -179,11 +180,11 @@ passed-over apply (r ∷ rs) x h =
     ap (apply_newer apply r) (passed-over apply rs x a.1) ∙ ap (λ (b : Bool). if b then record { image = apply r x.image; page_lsn = r.lsn } else x) test
 
 -- and records that it has not
-record Newer (apply : LogRecord → List ℕ → List ℕ) (rs older : List LogRecord) (image : List ℕ) (x : Content) : Type 0 where
-  image_is : (apply_all_newer apply rs x).image ≡ put (rs ++ older) image
+pub record Newer (apply : LogRecord → List ℕ → List ℕ) (rs older : List LogRecord) (image : List ℕ) (x : Content) : Type 0 where
+  pub image_is : (apply_all_newer apply rs x).image ≡ put (rs ++ older) image
   below : (n : ℕ) → x.page_lsn < n → every (λ o. nat_lt o.lsn n) rs ≡ true → (apply_all_newer apply rs x).page_lsn < n
 
-all-newer : (apply : LogRecord → List ℕ → List ℕ) (rs older : List LogRecord) (image : List ℕ) (x : Content) → x.image ≡ put older image → Rise rs → every (λ r. nat_lt x.page_lsn r.lsn) rs ≡ true → AppliesAlike apply (rs ++ older) image
+pub all-newer : (apply : LogRecord → List ℕ → List ℕ) (rs older : List LogRecord) (image : List ℕ) (x : Content) → x.image ≡ put older image → Rise rs → every (λ r. nat_lt x.page_lsn r.lsn) rs ≡ true → AppliesAlike apply (rs ++ older) image
     → Newer apply rs older image x
 all-newer apply [] older image x is rise h alike = record { image_is = is; below = λ n lt e. lt }
 all-newer apply (r ∷ rs) older image x is rise h alike =
@@ -205,6 +206,32 @@ newer-above p least earlier (r ∷ newer) rise h =
     let older = (every-append (λ o. nat_lt o.lsn r.lsn) newer (records p earlier) rise.here).1 in
     let pos : 0 < r.lsn = omega arith in
     and_from _ _ (lt-ltb (written_lsn p earlier) r.lsn (lsn-below p r.lsn earlier older pos)) (newer-above p least earlier newer rise.before a.1)
+
+-- The first record of a page that is used again makes it anew: over images of its size, on which
+-- records were acted that lie within it
+abbrev Anew : {size : ℕ} {first : ℕ → List ℕ} {end : ℕ} {past : Trail} {p : ℕ} → (LogRecord → List ℕ → List ℕ) → GaveBack size first end past p → Type 0
+Anew apply (GaveBack.from_opening honest) = Unit {0}
+Anew {size} apply (GaveBack.since_used_again u) =
+    (rs : List LogRecord) (x : Content) → AllFit size rs → length x.image ≡ size → apply (record_of u.entry.call) (apply_all_newer apply rs x).image ≡ (record_of u.entry.call).bytes
+
+tells-anew : {size : ℕ} {first : ℕ → List ℕ} {end : ℕ} {past : Trail} {p : ℕ} (apply : LogRecord → List ℕ → List ℕ) (g : GaveBack size first end past p) → TellsNew apply g → Anew apply g
+tells-anew apply (from_opening honest) t = tt
+tells-anew apply (since_used_again u) t = λ rs x f is. t (apply_all_newer apply rs x).image
+
+length-newer : (size : ℕ) (rs : List LogRecord) (x : Content) → AllFit size rs → length x.image ≡ size → length (apply_all_newer patch rs x).image ≡ size
+length-newer size [] x f is = is
+length-newer size (r ∷ rs) x f is = go (nat_lt (apply_all_newer patch rs x).page_lsn r.lsn) (length-newer size rs x f.1 is)
+  where
+    go : (b : Bool) → length (apply_all_newer patch rs x).image ≡ size
+        → length (if b then record { image = patch r (apply_all_newer patch rs x).image; page_lsn = r.lsn } else apply_all_newer patch rs x).image ≡ size
+    go true ih = let g = f.0 in length-patched r.offset r.bytes (apply_all_newer patch rs x).image (omega arith) ∙ ih
+    go false ih = ih
+
+patch-anew : {size : ℕ} {first : ℕ → List ℕ} {end : ℕ} {past : Trail} {p : ℕ} (g : GaveBack size first end past p) → Anew patch g
+patch-anew (from_opening honest) = tt
+patch-anew {size} (since_used_again u) = λ rs x f is.
+    let w = record_of u.entry.call in
+    patched-whole w.offset w.bytes (apply_all_newer patch rs x).image u.offset (u.bytes ∙ sym (length-newer size rs x f is))
 
 -- of the records that redo wants, those that the page has are passed over
 stamped-newer : (apply : LogRecord → List ℕ → List ℕ) (log : List LogRecord) (start from p : ℕ) (x : Content) (unwritten newer older : List LogRecord)
@@ -228,7 +255,7 @@ stamped-older apply log start from p image x unwritten newer older stands le u n
 
 -- ---- over an image that is older than the write by which the page was used again
 
-newer-below : (apply : LogRecord → List ℕ → List ℕ) (rs : List LogRecord) (x : Content) (n : ℕ) → x.page_lsn < n → every (λ o. nat_lt o.lsn n) rs ≡ true → (apply_all_newer apply rs x).page_lsn < n
+pub newer-below : (apply : LogRecord → List ℕ → List ℕ) (rs : List LogRecord) (x : Content) (n : ℕ) → x.page_lsn < n → every (λ o. nat_lt o.lsn n) rs ≡ true → (apply_all_newer apply rs x).page_lsn < n
 newer-below apply [] x n lt h = lt
 newer-below apply (r ∷ rs) x n lt h =
     let a = and_parts (nat_lt r.lsn n) _ h in
@@ -239,7 +266,7 @@ newer-below apply (r ∷ rs) x n lt h =
     go true i ih = i
     go false i ih = ih
 
-rise-above : (newer older : List LogRecord) (r : LogRecord) → Rise (newer ++ r ∷ older) → every (λ o. nat_lt r.lsn o.lsn) newer ≡ true
+pub rise-above : (newer older : List LogRecord) (r : LogRecord) → Rise (newer ++ r ∷ older) → every (λ o. nat_lt r.lsn o.lsn) newer ≡ true
 rise-above [] older r h = refl
 rise-above (o ∷ newer) older r h = and_from _ _ (and_parts (nat_lt r.lsn o.lsn) _ (every-append (λ k. nat_lt k.lsn o.lsn) newer (r ∷ older) h.here).1).0 (rise-above newer older r h.before)
 
@@ -247,7 +274,7 @@ stamped-over : (apply : LogRecord → List ℕ → List ℕ) (log : List LogReco
     → Overwritten size first end p write later earlier x.image
     → records_from start log p ≡ unwritten ++ (records p (within end later) ++ records p earlier) → start ≤ from → every (from_lsn from) unwritten ≡ true → every (from_lsn from) (records p (within end later)) ≡ true
     → every (λ r. nat_le r.lsn x.page_lsn) (records p earlier) ≡ true → Rise (unwritten ++ records p (within end later)) → every (λ r. nat_lt x.page_lsn r.lsn) (unwritten ++ records p (within end later)) ≡ true
-    → AppliesAlike apply (records_from start log p) (first p) → ((image : List ℕ) → apply (record_of write.call) image ≡ (record_of write.call).bytes)
+    → AppliesAlike apply (records_from start log p) (first p) → ((rs : List LogRecord) → AllFit size rs → apply (record_of write.call) (apply_all_newer apply rs x).image ≡ (record_of write.call).bytes)
     → (redo_by_lsn apply from log p x).image ≡ redo start log p (first p)
 stamped-over apply log start from end size p first x unwritten write later earlier o stands le u n below rise above alike new =
     let older = records p earlier in
@@ -263,7 +290,7 @@ stamped-over apply log start from end size p first x unwritten write later earli
     let applied : apply_newer apply w z ≡ y = ap (λ (b : Bool). if b then y else z) (lt-ltb z.page_lsn w.lsn lt) in
     let made : apply_all_newer apply ((unwritten ++ nl) ++ w ∷ nk) x ≡ apply_all_newer apply (unwritten ++ nl) y = apply_all_newer-append apply (unwritten ++ nl) (w ∷ nk) x ∙ ap (apply_all_newer apply (unwritten ++ nl)) applied in
     let has : y.image ≡ put (w ∷ (nk ++ older)) (first p) =
-    new z.image ∙ sym (over-put size first end p write later earlier x.image o older (first p) o.earlier_fit o.opening) ∙ sym (put-append (w ∷ nk) older (first p)) in
+    new nk (within-fit size p end o.between o.between_fit) ∙ sym (over-put size first end p write later earlier x.image o older (first p) o.earlier_fit o.opening) ∙ sym (put-append (w ∷ nk) older (first p)) in
     let joined : records_from start log p ≡ (unwritten ++ nl) ++ w ∷ (nk ++ older) =
     stands ∙ sym (append_assoc unwritten (records p (within end later)) older) ∙ ap (λ rs. rs ++ older) cut ∙ append_assoc (unwritten ++ nl) (w ∷ nk) older in
     ap (λ (y : Content). y.image) (stamped-newer apply log start from p x unwritten (records p (within end later)) older stands le u n below ∙ ap (λ rs. apply_all_newer apply rs x) cut ∙ made)
@@ -275,10 +302,10 @@ begin-unsaved c past who _ _ (fix_write q v m w g) p h = subst (λ x. unsaved pa
 begin-unsaved c past who _ _ (flush_write v r w g) p h = subst (λ x. unsaved past x ≡ true) (eqb-true v p h) g.unsaved_page
 begin-unsaved c past who _ _ _ p h = cc
 
-pub recovers-by_lsn : (apply : LogRecord → List ℕ → List ℕ) (c : Parameters) (first : ℕ → Content) (synced past : Trail) (log : List LogRecord) (start from end p : ℕ) (x : Content)
+recovers-anew : (apply : LogRecord → List ℕ → List ℕ) (c : Parameters) (first : ℕ → Content) (synced past : Trail) (log : List LogRecord) (start from end p : ℕ) (x : Content)
     → (s : Stopped c (λ q. (first q).image) synced past log start from end p) → Rise (records_from start log p) → every (λ r. nat_lt (first p).page_lsn r.lsn) (records_from start log p) ≡ true
-    → AppliesAlike apply (records_from start log p) (first p).image → TellsNew apply s.gave_back → MayHaveStamped first synced past p x → (redo_by_lsn apply from log p x).image ≡ redo start log p (first p).image
-recovers-by_lsn apply c first synced past log start from end p x s rises firsts alike new (inl (out, is)) = go s.gave_back new
+    → AppliesAlike apply (records_from start log p) (first p).image → Anew apply s.gave_back → MayHaveStamped first synced past p x → (redo_by_lsn apply from log p x).image ≡ redo start log p (first p).image
+recovers-anew apply c first synced past log start from end p x s rises firsts alike new (inl (out, is)) = go s.gave_back new
   where
     m : ℕ → List ℕ
     m q = (first q).image
@@ -328,14 +355,14 @@ recovers-by_lsn apply c first synced past log start from end p x s rises firsts 
     has h =
         stamped-older apply log start from p (first p).image x u newer older whole s.from_start s.has.unwritten_from all_newer (image ∙ h.image_is) below (rise-front (u ++ newer) older rising) above alike
 
-    go : (g : GaveBack c.size m end past p) → TellsNew apply g → (redo_by_lsn apply from log p x).image ≡ redo start log p (first p).image
+    go : (g : GaveBack c.size m end past p) → Anew apply g → (redo_by_lsn apply from log p x).image ≡ redo start log p (first p).image
     go (from_opening honest) new = has (has-records c m synced past p out s.legal honest)
     go (since_used_again again) new = elim (has-again c m synced end past p out s.legal again) [
       | inl h ↦ has h
       | inr o ↦ stamped-over apply log start from end c.size p m x u again.entry out.later out.earlier (subst (Overwritten c.size m end p again.entry out.later out.earlier) (sym image) o)
-          whole s.from_start s.has.unwritten_from all_newer below (rise-front (u ++ newer) older rising) above alike new
+          whole s.from_start s.has.unwritten_from all_newer below (rise-front (u ++ newer) older rising) above alike (λ rs f. new rs x f (ap length image ∙ o.image_size))
     ]
-recovers-by_lsn apply c first synced past log start from end p x s rises firsts alike new (inr (none, is)) =
+recovers-anew apply c first synced past log start from end p x s rises firsts alike new (inr (none, is)) =
     let u = s.has.unwritten in
     let newer = records p (within end past) in
     let whole : records_from start log p ≡ u ++ (newer ++ []) = s.has.stands ∙ ap (λ rs. u ++ rs) (sym (append-nil newer)) in
@@ -345,6 +372,47 @@ recovers-by_lsn apply c first synced past log start from end p x s rises firsts 
     (ap (λ (y : Content). y.image) is) refl (subst Rise s.has.stands rises)
     (subst (λ (y : Content). every (λ r. nat_lt y.page_lsn r.lsn) (u ++ newer) ≡ true) (sym is) (subst (λ rs. every (λ r. nat_lt (first p).page_lsn r.lsn) rs ≡ true) s.has.stands firsts))
     alike
+
+pub recovers-by_lsn : (apply : LogRecord → List ℕ → List ℕ) (c : Parameters) (first : ℕ → Content) (synced past : Trail) (log : List LogRecord) (start from end p : ℕ) (x : Content)
+    → (s : Stopped c (λ q. (first q).image) synced past log start from end p) → Rise (records_from start log p) → every (λ r. nat_lt (first p).page_lsn r.lsn) (records_from start log p) ≡ true
+    → AppliesAlike apply (records_from start log p) (first p).image → TellsNew apply s.gave_back → MayHaveStamped first synced past p x → (redo_by_lsn apply from log p x).image ≡ redo start log p (first p).image
+recovers-by_lsn apply c first synced past log start from end p x s rises firsts alike new = recovers-anew apply c first synced past log start from end p x s rises firsts alike (tells-anew apply s.gave_back new)
+
+-- to put bytes in is to do what the write did
+patch-alike : (rs : List LogRecord) (image : List ℕ) → AppliesAlike patch rs image
+patch-alike [] image = tt
+patch-alike (r ∷ rs) image = record { here = refl; before = patch-alike rs image }
+
+pub recovers-bytes : (c : Parameters) (first : ℕ → Content) (synced past : Trail) (log : List LogRecord) (start from end p : ℕ) (x : Content)
+    → Stopped c (λ q. (first q).image) synced past log start from end p → Rise (records_from start log p) → every (λ r. nat_lt (first p).page_lsn r.lsn) (records_from start log p) ≡ true
+    → MayHaveStamped first synced past p x → (redo_by_lsn patch from log p x).image ≡ redo start log p (first p).image
+recovers-bytes c first synced past log start from end p x s rises firsts = recovers-anew patch c first synced past log start from end p x s rises firsts (patch-alike (records_from start log p) (first p).image) (patch-anew s.gave_back)
+
+-- ---- redo by page LSN that is cut off
+
+has-all : (apply : LogRecord → List ℕ → List ℕ) (rs : List LogRecord) (x : Content) (n : ℕ) → (apply_all_newer apply rs x).page_lsn ≤ n → every (λ r. nat_le r.lsn n) rs ≡ true
+has-all apply [] x n le = refl
+has-all apply (r ∷ rs) x n le =
+    let y = apply_all_newer apply rs x in
+    let h = go (nat_lt y.page_lsn r.lsn) refl le in
+    and_from _ _ (le-leb r.lsn n h.0) (has-all apply rs x n h.1)
+  where
+    go : (b : Bool) → nat_lt (apply_all_newer apply rs x).page_lsn r.lsn ≡ b
+        → (if b then record { image = apply r (apply_all_newer apply rs x).image; page_lsn = r.lsn } else apply_all_newer apply rs x).page_lsn ≤ n
+        → (r.lsn ≤ n) × ((apply_all_newer apply rs x).page_lsn ≤ n)
+    go true i k = let lt = ltb-true (apply_all_newer apply rs x).page_lsn r.lsn i in (k, omega arith)
+    go false i k = let ge = ltb-false (apply_all_newer apply rs x).page_lsn r.lsn i in (omega arith, k)
+
+pub by_lsn-cut_off : (apply : LogRecord → List ℕ → List ℕ) (newer older : List LogRecord) (from p : ℕ) (x : Content)
+    → redo_by_lsn apply from (newer ++ older) p (redo_by_lsn apply from older p x) ≡ redo_by_lsn apply from (newer ++ older) p x
+by_lsn-cut_off apply newer older from p x =
+    let a = records_from from newer p in
+    let b = records_from from older p in
+    let y = apply_all_newer apply b x in
+    let cut : records_from from (newer ++ older) p ≡ a ++ b = filter-append (wanted from p) newer older in
+    let over : apply_all_newer apply b y ≡ y = passed-over apply b y (has-all apply b x y.page_lsn (omega arith)) in
+    ap (λ rs. apply_all_newer apply rs y) cut ∙ apply_all_newer-append apply a b y ∙ ap (apply_all_newer apply a) over
+    ∙ sym (apply_all_newer-append apply a b x) ∙ ap (λ rs. apply_all_newer apply rs x) (sym cut)
 
 -- ---- what redo by page LSN is
 

@@ -1,6 +1,6 @@
 -- What a crash leaves, and what redo makes of it: the records of the log, put into the images that
 -- the device has.
-use Rattle.std.specs.Prelude.{◌≡◌, ◌⊎◌, ℕ, ◌+◌, ◌≤◌, min, nat_lt, nat_le, Bool, not, ◌&&◌, ◌||◌, ◌==◌, if◌then◌else◌, IsTrue, IsFalse, List, [], ◌∷◌, ◌++◌, length, filter, filter_map, Option, Some, None}
+use Rattle.std.specs.Prelude.{◌≡◌, ◌⊎◌, ℕ, ◌+◌, ◌≤◌, min, nat_lt, nat_le, Bool, not, ◌&&◌, ◌||◌, ◌==◌, if◌then◌else◌, IsTrue, IsFalse, List, [], ◌∷◌, ◌++◌, length, reverse, filter, filter_map, Option, Some, None}
 use Rattle.bp_page.specs.Patched.{patched}
 use Rattle.bp_trail.specs.declared.entries.Entry.{Entry}
 use Rattle.bp_trail.specs.declared.entries.Call.{Call}
@@ -54,13 +54,25 @@ abbrev pub AllFit : ℕ → List LogRecord → Type 0
 AllFit size [] = Unit {0}
 AllFit size (r ∷ older) = (r.offset + length r.bytes ≤ size) × AllFit size older
 
--- the oldest record has all bytes of a page of this size
-pub record BeginsWithFullImage (size : ℕ) (log : List LogRecord) : Type 0 where
+-- of a log that is oldest first: the oldest record of p, from an LSN on, whose bytes do not lie within
+-- a page of this size
+pub record FirstMisfit (size from p : ℕ) (log : List LogRecord) : Type 0 where
+  pub before : List LogRecord
+  pub misfit : LogRecord
+  pub rest : List LogRecord
+  pub stands : log ≡ before ++ misfit ∷ rest
+  pub fit : AllFit size (records_from from (reverse before) p)
+  pub beyond : ¬ AllFit size (records_from from (misfit ∷ []) p)
+
+-- a record has all bytes of a page of this size, and the bytes of those before it lie within one
+pub record HasFullImage (size : ℕ) (log : List LogRecord) : Type 0 where
   pub newer : List LogRecord
-  pub oldest : LogRecord
-  pub stands : log ≡ newer ++ oldest ∷ []
-  pub offset : oldest.offset ≡ 0
-  pub bytes : length oldest.bytes ≡ size
+  pub full : LogRecord
+  pub older : List LogRecord
+  pub stands : log ≡ newer ++ full ∷ older
+  pub offset : full.offset ≡ 0
+  pub bytes : length full.bytes ≡ size
+  pub fit : AllFit size older
 
 -- ---- redo
 
@@ -104,22 +116,49 @@ abbrev pub apply_all : (LogRecord → List ℕ → List ℕ) → List LogRecord 
 apply_all apply [] image = image
 apply_all apply (r ∷ older) image = apply r (apply_all apply older image)
 
--- the oldest record of p from an LSN on makes the page anew: whatever the page has, to apply on it
--- gives what the page had after its write
+-- a record of p makes the page anew: to apply it on what the older ones make of this image gives what
+-- the page had after its write
 pub record MakesAnew (apply : LogRecord → List ℕ → List ℕ) (log : List LogRecord) (start from p : ℕ)
-    (first : List ℕ) : Type 0 where
+    (first image : List ℕ) : Type 0 where
   pub newer : List LogRecord
-  pub oldest : LogRecord
+  pub full : LogRecord
+  pub older : List LogRecord
   pub rest : List LogRecord
-  pub all : records_from start log p ≡ newer ++ oldest ∷ rest
-  pub needed : records_from from log p ≡ newer ++ oldest ∷ []
-  pub anew : (image : List ℕ) → apply oldest image ≡ put (oldest ∷ rest) first
+  pub all : records_from start log p ≡ newer ++ full ∷ rest
+  pub needed : records_from from log p ≡ newer ++ full ∷ older
+  pub anew : apply full (apply_all apply older image) ≡ put (full ∷ rest) first
+
+-- Redo by page LSN with full images: such a record is acted on whatever the page LSN is, which then
+-- is that of the record
+abbrev pub apply_newer_or_full : (LogRecord → Bool) → (LogRecord → List ℕ → List ℕ) → LogRecord
+    → Content → Content
+apply_newer_or_full is_full apply r x =
+    if is_full r || nat_lt x.page_lsn r.lsn
+    then record { image = apply r x.image; page_lsn = r.lsn } else x
+
+abbrev pub apply_all_newer_or_full : (LogRecord → Bool) → (LogRecord → List ℕ → List ℕ)
+    → List LogRecord → Content → Content
+apply_all_newer_or_full is_full apply [] x = x
+apply_all_newer_or_full is_full apply (r ∷ older) x =
+    apply_newer_or_full is_full apply r (apply_all_newer_or_full is_full apply older x)
+
+abbrev pub redo_with_full_images : (LogRecord → Bool) → (LogRecord → List ℕ → List ℕ) → ℕ
+    → List LogRecord → ℕ → Content → Content
+redo_with_full_images is_full apply from log p x =
+    apply_all_newer_or_full is_full apply (records_from from log p) x
+
+-- On an image of a page's size the full image gives its bytes, and a record that lies within the page
+-- leaves the size. `patch` does so.
+pub record PutsIn (apply : LogRecord → List ℕ → List ℕ) (size : ℕ) (full : LogRecord) : Type 0 where
+  pub gives : (image : List ℕ) → length image ≡ size → apply full image ≡ full.bytes
+  pub sized : (r : LogRecord) (image : List ℕ) → length image ≡ size
+      → r.offset + length r.bytes ≤ size → length (apply r image) ≡ size
 
 -- ---- the device
 
 -- an image that went out of p, and no later write-out of p was safe. A write-out is safe if it ended
--- well in `synced`: the trail when the last good sync of the device began, or the whole trail
--- where the device keeps what it was given
+-- well in `synced`: the trail when the last good sync of the device began before which no sync had
+-- failed; or an older one; or the whole trail where the device keeps what it was given
 pub record WentOut (synced past : Trail) (p : ℕ) : Type 0 where
   pub later : Trail
   pub entry : Entry
@@ -134,7 +173,8 @@ pub record WentOut (synced past : Trail) (p : ℕ) : Type 0 where
 abbrev pub NoneSafe : Trail → Trail → ℕ → Type 0
 NoneSafe synced past p = IsFalse (some (λ e. began_saving synced p e.reply) past)
 
--- what the device may have of p after a crash: such an image, or what it had at first
+-- What the device may have of p after a crash: such an image, or what it had at first. `first` is what
+-- the device keeps, and not only what reads of it bring: after a failed sync these may bring more
 abbrev pub MayHave : (ℕ → List ℕ) → Trail → Trail → ℕ → List ℕ → Type 0
 MayHave first synced past p image =
     ((out : WentOut synced past p) × (image ≡ out.image))
@@ -196,7 +236,8 @@ abbrev pub IsRedoPoint : ℕ → Trail → Trail → ℕ → Type 0
 IsRedoPoint from synced past p = (least : ℕ) → first_unsafe synced past p ≡ Some least → from ≤ least
 
 -- From `start` on the log has of p the records of its writes, up to the log's end, in their order.
--- After these may stand records whose write never came to be, none below the redo point.
+-- After these may stand records whose write never came to be, none below the redo point. The log
+-- counts here what was cut off it in this run: redo asks for none of that.
 pub record LogHas (log : List LogRecord) (start from end : ℕ) (past : Trail) (p : ℕ) : Type 0 where
   pub unwritten : List LogRecord
   pub stands : records_from start log p ≡ unwritten ++ records p (within end past)
@@ -221,7 +262,7 @@ abbrev pub redo_point : Option ℕ → ℕ → ℕ
 redo_point None next = next
 redo_point (Some least) next = min least next
 
--- no write has an LSN below this one
-abbrev pub WritesFrom : ℕ → Trail → Type 0
-WritesFrom next late =
-    EachEntry (λ before e. (p lsn : ℕ) → lsn_written p e ≡ Some lsn → next ≤ lsn) late
+-- no write of p has an LSN below this one
+abbrev pub WritesFrom : ℕ → ℕ → Trail → Type 0
+WritesFrom next p late =
+    EachEntry (λ before e. (lsn : ℕ) → lsn_written p e ≡ Some lsn → next ≤ lsn) late

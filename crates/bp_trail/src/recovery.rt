@@ -1,6 +1,6 @@
 //! Laws of a crash: what redo makes of the images that the device then has. Each function does nothing: its contract is
 //! the law.
-ghost use Rattle.std.specs.Prelude.{◌≡◌, ◌≤◌, ◌+◌, max, ◌↔◌, ℕ, true, List, ◌++◌, length, Contains, Option, IsTrue, nat_lt, nat_le};
+ghost use Rattle.std.specs.Prelude.{◌≡◌, ◌≤◌, ◌+◌, max, ◌↔◌, ℕ, Bool, true, List, ◌++◌, length, Contains, Option, IsTrue, nat_lt, nat_le};
 ghost use Rattle.bp_trail.specs.declared.entries.Entry.{Entry};
 ghost use Rattle.bp_trail.specs.declared.records.LogRecord.{LogRecord};
 ghost use Rattle.bp_trail.specs.Lists.{every};
@@ -14,15 +14,16 @@ ghost use Rattle.bp_trail.specs.Images.{held, plain_map};
 ghost use Rattle.bp_trail.specs.Legal.{Legal};
 ghost use Rattle.bp_trail.specs.Device.{HonestOf};
 ghost use Rattle.bp_trail.specs.Standing.{Content};
-ghost use Rattle.bp_trail.specs.Recovery.{NeverFall, Rise, AllFit, BeginsWithFullImage, MayHave, MayHaveStamped, UsedAgain, GaveBack, ReadBeyond, TellsNew, Stopped, IsRedoPoint, WritesFrom, records, records_from, within, patch, put, redo, redo_by_lsn, AppliesAlike, apply_all, MakesAnew, Recovers, LogHas, redo_point};
+ghost use Rattle.bp_trail.specs.Recovery.{NeverFall, Rise, AllFit, HasFullImage, MayHave, MayHaveStamped, UsedAgain, GaveBack, ReadBeyond, TellsNew, Stopped, IsRedoPoint, WritesFrom, records, records_from, within, patch, put, redo, redo_by_lsn, AppliesAlike, apply_all, MakesAnew, PutsIn, redo_with_full_images, Recovers, LogHas, redo_point};
 
-/// Wherever a pool is stopped, redo recovers each page. Take whatever image of the page the device then has, and put
-/// the records of the log into it in order, from the redo point on. The page is then what the whole log makes of the
-/// image that it had at first. That is what the plain map has from the writes within the log, and after these any
-/// records whose write never came to be. So what the log has is there, and no more.
+/// Wherever a pool is stopped, redo recovers each page. Take whichever image of the page the device then has, of those
+/// that went out whole or the first one, and put the records of the log into it in order, from the redo point on. The
+/// page is then what the whole log makes of the image that it had at first. That is what the plain map has from the
+/// writes within the log, and after these any records whose write never came to be. So what the log has is there, and
+/// nothing else.
 ///
-/// The LSNs of the page's records may not fall. Redo of the whole log, from 0 on, takes them in any order. The log may
-/// be redone piece by piece, the oldest first.
+/// The LSNs of the page's records may not fall. Redo of the whole log, from 0 on, takes them in any order, and whatever
+/// was synced. The log may be redone piece by piece, the oldest first.
 pub fn redo_recovers_each_page()
     ensures recovered { (c : Parameters) (first : ℕ → List ℕ) (synced past : Trail)
         (log : List LogRecord) (start from end p : ℕ) (image : List ℕ) →
@@ -33,9 +34,9 @@ pub fn redo_recovers_each_page()
         (s : Stopped c first synced past log start from end p) →
         NeverFall (records_from start log p) → MayHave first synced past p image →
         redo from log p image ≡ put s.has.unwritten (plain_map first (within end past) p) }
-    ensures whole { (c : Parameters) (first : ℕ → List ℕ) (past : Trail) (log : List LogRecord)
+    ensures whole { (c : Parameters) (first : ℕ → List ℕ) (synced past : Trail) (log : List LogRecord)
         (end p : ℕ) (image : List ℕ) → Legal c past → GaveBack c.size first end past p → durable past ≤ end →
-        records_from 0 log p ≡ records p (within end past) → MayHave first past past p image →
+        records_from 0 log p ≡ records p (within end past) → MayHave first synced past p image →
         redo 0 log p image ≡ plain_map first (within end past) p }
     ensures in_pieces { (newer older : List LogRecord) (from p : ℕ) (image : List ℕ) →
         redo from (newer ++ older) p image ≡ redo from newer p (redo from older p image) }
@@ -84,8 +85,12 @@ pub fn redone_pages_hold_the_plain_map()
 /// Redo by page LSN recovers each page too. It applies a record only if its LSN is above the page LSN that the device
 /// has with the image: the one at the begin of the write-out. The LSNs of the page's records rise, and are above the
 /// page LSN at first. A record may tell in any way what its write did, as by what it added, since it is applied to the
-/// page as its write found it. The first record of a page that is used again says that the page is new. With records
-/// that tell bytes this is redo from the LSN after that of the page, or from the redo point if that is later.
+/// page as its write found it. The first record of a page that is used again says that the page is new. Records that
+/// tell bytes need not say so (clause `bytes`). With them this is redo from the LSN after that of the page, or from the
+/// redo point if that is later.
+///
+/// The page LSN is that of the image: of an image that went out whole, or the first one. A page that may be torn wants
+/// `full_images_recover_torn_pages`.
 pub fn redo_by_page_lsn_recovers_each_page()
     ensures recovered { (apply : LogRecord → List ℕ → List ℕ) (c : Parameters) (first : ℕ → Content)
         (synced past : Trail) (log : List LogRecord) (start from end p : ℕ) (x : Content)
@@ -94,6 +99,12 @@ pub fn redo_by_page_lsn_recovers_each_page()
         (records_from start log p)) → AppliesAlike apply (records_from start log p) (first p).image →
         TellsNew apply s.gave_back → MayHaveStamped first synced past p x →
         (redo_by_lsn apply from log p x).image ≡ redo start log p (first p).image }
+    ensures bytes { (c : Parameters) (first : ℕ → Content) (synced past : Trail)
+        (log : List LogRecord) (start from end p : ℕ) (x : Content) →
+        Stopped c (λ q. (first q).image) synced past log start from end p →
+        Rise (records_from start log p) → IsTrue (every (λ r. nat_lt (first p).page_lsn r.lsn)
+        (records_from start log p)) → MayHaveStamped first synced past p x →
+        (redo_by_lsn patch from log p x).image ≡ redo start log p (first p).image }
     ensures from_there { (log : List LogRecord) (from p : ℕ) (x : Content) →
         Rise (records_from from log p) →
         (redo_by_lsn patch from log p x).image ≡ redo (max from (x.page_lsn + 1)) log p x.image }
@@ -102,27 +113,40 @@ pub fn redo_by_page_lsn_recovers_each_page()
 /// A checkpoint gives a redo point: the lesser of the LSN that came next when it began, and of the least LSN of the
 /// writes that had not gone out when the sync of the device began. Redo may begin there after a crash at any later
 /// time, even if the device has no more than what had ended well before that sync. It gives the plain map.
+///
+/// That least LSN may be asked for before the sync begins: the device has no other images by a newer sync than it may
+/// have by an older one. From the next LSN on come the later writes of this page. Other pages may have others.
 pub fn checkpoint_gives_a_redo_point()
     ensures point { (synced late : Trail) (least : Option ℕ) (next p : ℕ) → IsRedoFrom synced least →
-        WritesFrom next late → IsRedoPoint (redo_point least next) synced (late ++ synced) p }
+        WritesFrom next p late → IsRedoPoint (redo_point least next) synced (late ++ synced) p }
     ensures recovered { (c : Parameters) (first : ℕ → List ℕ) (synced late : Trail)
-        (log : List LogRecord) (least : Option ℕ) (next end p : ℕ) (image : List ℕ) →
+        (log : List LogRecord) (least : Option ℕ) (start next end p : ℕ) (image : List ℕ) →
         Legal c (late ++ synced) → GaveBack c.size first end (late ++ synced) p →
         durable (late ++ synced) ≤ end →
-        (h : LogHas log 0 (redo_point least next) end (late ++ synced) p) →
-        NeverFall (records_from 0 log p) → IsRedoFrom synced least → WritesFrom next late →
+        (h : LogHas log start (redo_point least next) end (late ++ synced) p) → start ≤ redo_point least next →
+        NeverFall (records_from start log p) → IsRedoFrom synced least → WritesFrom next p late →
         MayHave first synced (late ++ synced) p image → redo (redo_point least next) log p image ≡ put
         h.unwritten (plain_map first (within end (late ++ synced)) p) }
+    ensures asked_before { (first : ℕ → List ℕ) (newer synced past : Trail) (p : ℕ) (image : List ℕ) →
+        MayHave first (newer ++ synced) past p image → MayHave first synced past p image }
+    ensures asked_before_stamped { (first : ℕ → Content) (newer synced past : Trail) (p : ℕ)
+        (x : Content) → MayHaveStamped first (newer ++ synced) past p x →
+        MayHaveStamped first synced past p x }
 {}
 
 /// Redo may be interrupted by a crash, and begun again. If it stopped halfway through an image, redo of the whole makes
-/// what it would have made of the image before. If it wrote the records to a second pool, and that was stopped at any
+/// what it would have made of the image before, and so it is by page LSN, if the image has that of the last record that
+/// was acted on. If it wrote the records to a second pool, and that was stopped at any
 /// time, redo from a redo point of the second run makes what the whole log makes of the image that the page had before
 /// the first run, with the records that were added since. So it is after any number of crashes.
 pub fn redo_may_be_interrupted()
     ensures begun_again { (newer older : List LogRecord) (from p : ℕ) (image : List ℕ) →
         AllFit (length image) (records_from from older p) →
         redo from (newer ++ older) p (redo from older p image) ≡ redo from (newer ++ older) p image }
+    ensures begun_again_by_page_lsn { (apply : LogRecord → List ℕ → List ℕ)
+        (newer older : List LogRecord) (from p : ℕ) (x : Content) →
+        redo_by_lsn apply from (newer ++ older) p (redo_by_lsn apply from older p x) ≡
+        redo_by_lsn apply from (newer ++ older) p x }
     ensures stopped_again { (c : Parameters) (second : ℕ → List ℕ) (synced past : Trail)
         (log added : List LogRecord) (start from later end p : ℕ) (first image : List ℕ) →
         Recovers log start from p first (second p) → IsTrue (every (λ r. nat_le from r.lsn) added) →
@@ -131,21 +155,36 @@ pub fn redo_may_be_interrupted()
         Recovers (added ++ log) start later p first image }
 {}
 
-/// A full image in the log recovers a torn page: if a page's oldest record from the redo point on has all of its bytes,
-/// redo recovers the page whatever the device has of it. Redo from the log alone asks nothing of device and pool:
-/// records may tell in any way what their writes did, if the oldest one makes the page anew.
+/// A full image in the log recovers a torn page: if one of a page's records from the redo point on has all of its
+/// bytes, and those before it lie within the page, redo recovers the page whatever bytes the device has of it, as many
+/// as before. Redo from the log alone asks nothing of device and pool: records may tell in any way what their writes
+/// did, if one of them makes the page anew.
+///
+/// Redo by page LSN recovers a torn page only if it puts a full image in whatever the page LSN is, and goes on from the
+/// LSN of that record: the page LSN of a torn page may be newer than its bytes.
 pub fn full_images_recover_torn_pages()
     ensures any { (log : List LogRecord) (from p : ℕ) (a b : List ℕ) →
-        BeginsWithFullImage (length a) (records_from from log p) → length b ≡ length a →
+        HasFullImage (length a) (records_from from log p) → length b ≡ length a →
         redo from log p a ≡ redo from log p b }
     ensures torn { (c : Parameters) (first : ℕ → List ℕ) (synced past : Trail) (log : List LogRecord)
         (start from end p : ℕ) (torn : List ℕ) →
         Stopped c first synced past log start from end p → NeverFall (records_from start log p) →
-        BeginsWithFullImage (length torn) (records_from from log p) → length torn ≡ length (first p) →
+        HasFullImage (length torn) (records_from from log p) → length torn ≡ length (first p) →
         redo from log p torn ≡ redo start log p (first p) }
     ensures alone { (apply : LogRecord → List ℕ → List ℕ) (first : ℕ → List ℕ) (past : Trail)
         (log : List LogRecord) (start from end p : ℕ) (image : List ℕ)
         (h : LogHas log start from end past p) → AppliesAlike apply (records_from start log p) (first p) →
-        MakesAnew apply log start from p (first p) → apply_all apply (records_from from log p) image ≡ put
-        h.unwritten (plain_map first (within end past) p) }
+        MakesAnew apply log start from p (first p) image →
+        apply_all apply (records_from from log p) image ≡ put h.unwritten (plain_map first (within end past) p) }
+    ensures by_page_lsn { (is_full : LogRecord → Bool) (apply : LogRecord → List ℕ → List ℕ)
+        (first : ℕ → List ℕ) (past : Trail) (log : List LogRecord) (start from end p : ℕ) (x : Content)
+        (h : LogHas log start from end past p) → start ≤ from → Rise (records_from start log p) →
+        AppliesAlike apply (records_from start log p) (first p) →
+        (w : HasFullImage (length (first p)) (records_from start log p)) → from ≤ w.full.lsn →
+        IsTrue (is_full w.full) → PutsIn apply (length (first p)) w.full →
+        length x.image ≡ length (first p) →
+        (redo_with_full_images is_full apply from log p x).image ≡
+        put h.unwritten (plain_map first (within end past) p) }
+    ensures bytes_are_put_in { (size : ℕ) (full : LogRecord) → full.offset ≡ 0 →
+        length full.bytes ≡ size → PutsIn patch size full }
 {}
