@@ -21,47 +21,47 @@ use Rattle.bp_trail.specs.Standing.{Content}
 use Rattle.bp_trail.specs.Recovery.{records, records_from, within, NeverFall, Rise, patch, redo, redo_by_lsn, AppliesAlike, apply_all, redo_point, NoneSafe, MayHave, MayHaveStamped, IsRedoPoint, UsedAgain, ReadBeyond, LogHas, Stopped}
 
 -- one frame, and a file of one page of two bytes
-abbrev c : Parameters
+abbrev pub c : Parameters
 c = record { frames = 1; k = 1; correlated = 0; retained = 0; pages = 1; size = 2; clients = 1; room = 100 }
 
-abbrev zeros : ℕ → List ℕ
+abbrev pub zeros : ℕ → List ℕ
 zeros p = 0 ∷ 0 ∷ []
 
-abbrev put_at : ℕ → ℕ → ℕ → Entry
+abbrev pub put_at : ℕ → ℕ → ℕ → Entry
 put_at offset byte lsn = by 0 (Write 0 0 offset (byte ∷ []) lsn) Done
 
-abbrev told : ℕ → ℕ → ℕ → LogRecord
+abbrev pub told : ℕ → ℕ → ℕ → LogRecord
 told offset byte lsn = record { page = 0; offset = offset; bytes = byte ∷ []; lsn = lsn }
 
 -- the page is read, and written to under LSN 1; the log is durable so far; the page goes out, and is saved; it is written to again
-abbrev opened : Trail
+abbrev pub opened : Trail
 opened = by 0 (ReadEnd 0 0 (Some (0 ∷ 0 ∷ []))) (Fixed 0) ∷ by 0 (Fix 0) (Load 0 None) ∷ []
 
-abbrev written_once : Trail
+abbrev pub written_once : Trail
 written_once = put_at 0 7 1 ∷ opened
 
-abbrev marked_once : Trail
+abbrev pub marked_once : Trail
 marked_once = by 0 (Mark 1) Done ∷ written_once
 
-abbrev flush_of : Entry
+abbrev pub flush_of : Entry
 flush_of = by 0 (Flush 0) (WriteFirst 1 0 (7 ∷ 0 ∷ []))
 
-abbrev going_out : Trail
+abbrev pub going_out : Trail
 going_out = flush_of ∷ marked_once
 
-abbrev saved_once : Trail
+abbrev pub saved_once : Trail
 saved_once = by 0 (WriteEnd 1 0 true) Cleaned ∷ going_out
 
-abbrev written_twice : Trail
+abbrev pub written_twice : Trail
 written_twice = put_at 1 8 2 ∷ saved_once
 
-lawful-opened : Legal c opened
+pub lawful-opened : Legal c opened
 lawful-opened = record {
   here = record { client = refl; allowed = refl; reply = inl refl };
   before = record { here = record { client = refl; allowed = refl; reply = inl refl }; before = tt };
 }
 
-lawful-once : Legal c written_once
+pub lawful-once : Legal c written_once
 lawful-once = record { here = record { client = refl; allowed = refl; reply = inl refl }; before = lawful-opened }
 
 lawful-marked : Legal c marked_once
@@ -70,35 +70,35 @@ lawful-marked = record { here = record { client = refl; allowed = refl; reply = 
 lawful-going : Legal c going_out
 lawful-going = record { here = record { client = refl; allowed = refl; reply = inl refl }; before = lawful-marked }
 
-lawful-saved : Legal c saved_once
+pub lawful-saved : Legal c saved_once
 lawful-saved = record { here = record { client = refl; allowed = refl; reply = inl refl }; before = lawful-going }
 
-lawful-twice : Legal c written_twice
+pub lawful-twice : Legal c written_twice
 lawful-twice = record { here = record { client = refl; allowed = refl; reply = inl refl }; before = lawful-saved }
 
-honest-opened : HonestOf zeros 0 opened
+pub honest-opened : HonestOf zeros 0 opened
 honest-opened = record { here = λ i image h d. cc; before = record { here = λ i image h d. cc; before = tt } }
 
-honest-once : HonestOf zeros 0 written_once
+pub honest-once : HonestOf zeros 0 written_once
 honest-once = record { here = λ i image h d. cc; before = honest-opened }
 
 honest-going : HonestOf zeros 0 going_out
 honest-going = record { here = λ i image h d. cc; before = record { here = λ i image h d. cc; before = honest-once } }
 
-honest-saved : HonestOf zeros 0 saved_once
+pub honest-saved : HonestOf zeros 0 saved_once
 honest-saved = record { here = λ i image h d. cc; before = honest-going }
 
-honest-twice : HonestOf zeros 0 written_twice
+pub honest-twice : HonestOf zeros 0 written_twice
 honest-twice = record { here = λ i image h d. cc; before = honest-saved }
 
 -- two images that differ at a byte
-differ : (i : ℕ) (xs ys : List ℕ) → (get_or xs i 0 ≡ get_or ys i 0 → ⊥) → xs ≡ ys → ⊥
+pub differ : (i : ℕ) (xs ys : List ℕ) → (get_or xs i 0 ≡ get_or ys i 0 → ⊥) → xs ≡ ys → ⊥
 differ i xs ys n e = n (ap (λ zs. get_or zs i 0) e)
 
-abbrev first_record : LogRecord
+abbrev pub first_record : LogRecord
 first_record = told 0 7 1
 
-abbrev second_record : LogRecord
+abbrev pub second_record : LogRecord
 second_record = told 1 8 2
 
 -- ---- crashes from which redo recovers
@@ -114,7 +114,7 @@ recovered-stopped = record {
   point = λ least e. (let is : 2 ≡ least = cc in omega arith);
 }
 
-recovered-has : MayHave zeros written_twice written_twice 0 (7 ∷ 0 ∷ [])
+pub recovered-has : MayHave zeros written_twice written_twice 0 (7 ∷ 0 ∷ [])
 recovered-has = inl (record { later = put_at 1 8 2 ∷ by 0 (WriteEnd 1 0 true) Cleaned ∷ []; entry = flush_of; earlier = marked_once; ticket = 1; image = 7 ∷ 0 ∷ []; stands = refl; begins = refl; last = refl }, refl)
 
 recovered : redo 2 (second_record ∷ first_record ∷ []) 0 (7 ∷ 0 ∷ []) ≡ 7 ∷ 8 ∷ []
@@ -142,7 +142,7 @@ saved-not_first : NoneSafe saved_once saved_once 0 → ⊥
 saved-not_first none = cc
 
 -- unless the last sync began before, and then redo has to begin sooner
-unsynced-has : MayHave zeros marked_once saved_once 0 (0 ∷ 0 ∷ [])
+pub unsynced-has : MayHave zeros marked_once saved_once 0 (0 ∷ 0 ∷ [])
 unsynced-has = inr (refl, refl)
 
 unsynced-stopped : Stopped c zeros marked_once saved_once (first_record ∷ []) 0 1 1 0
@@ -402,13 +402,13 @@ made-anew = refl
 -- ---- a page that is used again
 
 -- The device has 7 0 of it. The pool was told of zeros, and the first write has all bytes
-abbrev old : ℕ → List ℕ
+abbrev pub old : ℕ → List ℕ
 old p = 7 ∷ 0 ∷ []
 
-abbrev whole_write : Entry
+abbrev pub whole_write : Entry
 whole_write = by 0 (Write 0 0 0 (3 ∷ 4 ∷ []) 2) Done
 
-abbrev used_again : Trail
+abbrev pub used_again : Trail
 used_again = put_at 1 8 3 ∷ whole_write ∷ opened
 
 again : UsedAgain 2 old 3 used_again 0
@@ -425,7 +425,7 @@ again = record {
   honest = record { here = λ i image h d. cc; before = tt };
 }
 
-again-stopped : Stopped c old used_again used_again (records 0 used_again) 0 2 3 0
+pub again-stopped : Stopped c old used_again used_again (records 0 used_again) 0 2 3 0
 again-stopped = record {
   legal = record {
     here = record { client = refl; allowed = refl; reply = inl refl };

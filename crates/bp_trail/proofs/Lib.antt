@@ -40,4 +40,6 @@ pub mod Redoing
 pub mod Stamped
 pub mod Beyond
 pub mod Crashes
+pub mod Full
 pub mod CrashExamples
+pub mod RedoExamples
