@@ -160,8 +160,8 @@ pub fn redo_may_be_interrupted()
 /// as before. Redo from the log alone asks nothing of device and pool: records may tell in any way what their writes
 /// did, if one of them makes the page anew.
 ///
-/// Redo by page LSN recovers a torn page only if it puts a full image in whatever the page LSN is, and goes on from the
-/// LSN of that record: the page LSN of a torn page may be newer than its bytes.
+/// The page LSN of a torn page may be newer than its bytes. Redo by page LSN recovers it if it puts a full image in
+/// whatever the page LSN is, and goes on from the LSN of that record.
 pub fn full_images_recover_torn_pages()
     ensures any { (log : List LogRecord) (from p : ℕ) (a b : List ℕ) →
         HasFullImage (length a) (records_from from log p) → length b ≡ length a →
