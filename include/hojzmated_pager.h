@@ -31,10 +31,14 @@
  *     have where that is refused with HZ_BUSY. A flush and a checkpoint wait for exclusive latches too.
  *
  * These the library cannot tell, and what it does then is not defined: a handle of a pager that is neither all zero nor
- * as these calls left it, or that is a copy; hz_pager_free while another thread is in a call of that pager; a pointer
- * to other memory than its type says, or to fewer bytes than the length beside it; a write to a page's bytes, or a look
- * at them after it was given back; a callback that throws, or that longjmp leaves; a call after the destructors of
- * thread-local objects of its thread have run.
+ * as these calls left it, or that is a copy; hz_pager_free while another thread is in a call of that pager, or has
+ * pages of it and ends (join it first); a pointer to other memory than its type says, or to fewer bytes than the length
+ * beside it; a write to a page's bytes, or a look at them after it was given back; a callback that throws, or that longjmp
+ * leaves; a call from a signal handler, in a child after fork, or of a thread that is cancelled within it; a file that
+ * was opened with O_APPEND.
+ *
+ * At its end a thread gives back the pages that it has. After that, as in handlers of atexit, hz_pager_fix and
+ * hz_pager_new_page are refused with HZ_UNKNOWN_PASS, and flushes, checkpoints and hz_pager_free are made as before.
  */
 #ifndef HOJZMATED_PAGER_H
 #define HOJZMATED_PAGER_H
@@ -169,7 +173,8 @@ uint16_t hz_pager_new(const hz_pager_config *config, const hz_io *io, hz_pager *
 
 /* Makes a pager over a page file, without a log: each LSN counts as durable. The file is open for reading and writing,
  * and is still the engine's: close it after hz_pager_free. It is of format 1, which has the pages one after the other,
- * or of format 2, with 16 bytes before each (hz_file.h). Where config->pages is 0 it is as many as the file has.
+ * or of format 2, with 16 bytes before each (hz_file.h). Where config->pages is 0 it has as many as the file, whose
+ * last one has to be whole: else it is refused with HZ_BAD_GEOMETRY.
  * Refused: as hz_pager_new; HZ_BAD_SETTINGS for another format; HZ_READ_FAILED where the descriptor tells no length. */
 uint16_t hz_pager_new_file(const hz_pager_config *config, int fd, int format, hz_pager *pager);
 

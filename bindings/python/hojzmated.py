@@ -382,6 +382,9 @@ class FixedPage:
     is only pinned. `numpy.frombuffer(page.bytes, dtype)` makes an array of them without a copy. All that was made of
     `bytes`, such as slices and arrays, has to be gone before the page is unfixed: else BufferError is raised, and the
     page stays as it was. Keep a copy (`bytes(..)`, `array.copy()`) of what is needed later.
+
+    A thread that ends gives back the pages that it fixed. Nothing sees to it that `bytes` of these are not looked at
+    after that, and there may then be another page or none: so let no page outlive the thread that fixed it.
     """
 
     def __init__(self, ref, page_size):
@@ -437,8 +440,8 @@ class Pager:
     """A pool for many threads over the pages of a file, with a latch on each page, which is a lock on that page alone.
 
     `path` is the file. With `pages` it is made if it is not there, and gets pages of zeros where it has less; without,
-    it has as many as it has. `format` 1 is a file of the bytes of the pages alone, 2 has 16 bytes before each,
-    with its number and its LSN. At most `frames` pages are in memory, and LRU-`k` chooses who makes way. `correlated`
+    it has as many as it has. A file that does not end with a whole page is refused, and nothing is written to it.
+    `format` 1 is a file of the bytes of the pages alone, 2 has 16 bytes before each, with its number and its LSN. At most `frames` pages are in memory, and LRU-`k` chooses who makes way. `correlated`
     and `retained` are its periods, in fixes, by default an eighth of the frames and one without end. `parts` are pools
     side by side, by default by the processors. A call waits `pin_wait` seconds where all pages that could make way are
     pinned, and is refused with 11 then.
@@ -458,10 +461,17 @@ class Pager:
         self._fd = os.open(path, os.O_RDWR | os.O_CLOEXEC | (os.O_CREAT if pages else 0), 0o666)
         try:
             _Library.call("hz_pager_new_file", config, self._fd, format, self._pager)
+            self._check_length(HEAD if format == 2 else 0)
             self._fill(config.pages, HEAD if format == 2 else 0)
         except BaseException:
             self.close()
             raise
+
+    def _check_length(self, head):
+        """A file that does not end with a whole page has another format or page size: nothing is written to it."""
+        slot, length = head + self.page_size, os.fstat(self._fd).st_size
+        if length % slot:
+            raise ValueError(f"the file has {length} bytes, and that is no whole number of pages of {slot} bytes")
 
     def _fill(self, pages, head):
         """Adds pages of zeros to the file, up to so many."""

@@ -339,6 +339,22 @@ class Pagers(unittest.TestCase):
                 pager.checkpoint()
             os.remove(self.path)
 
+    def test_another_length(self):
+        """A file of another format or page size is refused, and stays as it was."""
+        for page_size, was, opened, size in (4096, 1, 2, 4096), (4096, 2, 2, 8192), (4096, 2, 1, 4096):
+            path = os.path.join(self.folder.name, f"length{was}{opened}{size}")
+            with hojzmated.Pager(path, 100, page_size, 8, format=was) as pager:
+                with pager.new_page(7) as page:
+                    page.put(0, b"kept")
+                pager.checkpoint()
+            with open(path, "rb") as file:
+                before = file.read()
+            for pages in None, 200:
+                with self.assertRaises((ValueError, hojzmated.Refused)):
+                    hojzmated.Pager(path, pages, size, 8, format=opened)
+            with open(path, "rb") as file:
+                self.assertEqual(before, file.read())
+
     def test_bytes_end_with_the_latch(self):
         with self.pager() as pager:
             with pager.read(1) as page:

@@ -73,10 +73,11 @@ impl PageFile {
         Some(PageFile { file, head })
     }
 
-    /// The number of whole pages that the file has.
-    pub fn pages(&self, page_size: usize) -> io::Result<u64> {
+    /// The number of pages that the file has. None where it does not end with a whole one.
+    pub fn pages(&self, page_size: usize) -> io::Result<Option<u64>> {
         let slot = (self.head + page_size).max(1) as u64;
-        Ok(self.file.metadata()?.len() / slot)
+        let len = self.file.metadata()?.len();
+        Ok((len % slot == 0).then_some(len / slot))
     }
 
     fn place(&self, page: u64, page_size: usize) -> u64 {
@@ -119,16 +120,18 @@ thread_local! {
     static INSIDE: Cell<*const Inside> = const { Cell::new(ptr::null()) };
 }
 
-/// Calls a function with so many bytes of this thread's own memory, which it keeps for later calls.
+/// Calls a function with so many bytes of this thread's own memory, which it keeps for later calls. Once
+/// the thread's own objects are gone they are taken anew for each call.
 pub fn with_scratch<T>(len: usize, use_it: impl FnOnce(&mut [u8]) -> T) -> io::Result<T> {
-    SCRATCH.with_borrow_mut(|scratch| {
-        if scratch.len() < len {
-            let room = scratch.try_reserve_exact(len - scratch.len());
-            room.map_err(|_| io::ErrorKind::OutOfMemory)?;
-            scratch.resize(len, 0);
-        }
-        Ok(use_it(&mut scratch[..len]))
-    })
+    let mut kept = SCRATCH.try_with(RefCell::take).unwrap_or_default();
+    if kept.len() < len {
+        let room = kept.try_reserve_exact(len - kept.len());
+        room.map_err(|_| io::ErrorKind::OutOfMemory)?;
+        kept.resize(len, 0);
+    }
+    let used = use_it(&mut kept[..len]);
+    let _ = SCRATCH.try_with(|scratch| scratch.replace(kept));
+    Ok(used)
 }
 
 /// That this thread is in a callback of a device, and in those from which that was called.

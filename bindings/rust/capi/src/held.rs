@@ -4,7 +4,7 @@ use crate::Pager;
 use crate::abi::{HZ_DEADLOCK, HZ_EXCLUSIVE, HZ_PINNED, HZ_SHARED, HZ_UNKNOWN_PASS, hz_ref};
 use crate::fault::{Refusal, refusal};
 use hojzmated::{Error, PageMut, PagePin, PageRef};
-use std::cell::RefCell;
+use std::cell::{RefCell, RefMut};
 use std::mem::ManuallyDrop;
 use std::ptr;
 use std::sync::atomic::{AtomicU64, Ordering};
@@ -179,21 +179,29 @@ impl Table {
     }
 }
 
-/// The table of this thread, whose address stays as long as the thread is there.
+/// The table of this thread, whose address stays as long as the thread is there. None once the thread's
+/// own objects are gone, as in a handler of `atexit`: what it had was given back then.
 #[inline]
-fn table() -> *const RefCell<Table> {
-    TABLE.with(ptr::from_ref)
+fn table() -> Option<&'static RefCell<Table>> {
+    let table = TABLE.try_with(ptr::from_ref).ok()?;
+    // SAFETY: it is this thread's, which does not end while it is in this call.
+    Some(unsafe { &*table })
+}
+
+/// The table of this thread, to change it.
+#[inline]
+fn own_table() -> Result<RefMut<'static, Table>, Refusal> {
+    let table = table().ok_or_else(|| refusal(HZ_UNKNOWN_PASS))?;
+    Ok(table.borrow_mut())
 }
 
 /// Refused where this thread has a latch that is in the way.
 #[inline]
 fn check(is_in_the_way: impl Fn(&Slot) -> bool) -> Result<(), Refusal> {
-    // SAFETY: it is this thread's.
-    let table = unsafe { &*table() }.borrow();
-    if table.latches > 0 && table.has(is_in_the_way) {
-        return Err(refusal(HZ_DEADLOCK));
+    match table().map(RefCell::borrow) {
+        Some(table) if table.latches > 0 && table.has(is_in_the_way) => Err(refusal(HZ_DEADLOCK)),
+        _ => Ok(()),
     }
-    Ok(())
 }
 
 /// Refused where this thread has a latch of the page.
@@ -213,15 +221,13 @@ pub fn check_exclusive(pager: &Pager, page: Option<u64>) -> Result<(), Refusal> 
 /// Keeps a guard for this thread, and returns its handle.
 #[inline(always)]
 pub fn keep(guard: Guard, pager: &Pager, page: u64) -> Result<hz_ref, Refusal> {
-    // SAFETY: it is this thread's.
-    unsafe { &*table() }.borrow_mut().put(guard, pager, page)
+    own_table()?.put(guard, pager, page)
 }
 
 /// Gives a page back. No other code of this thread runs meanwhile.
 #[inline]
 pub fn give_back(given: &hz_ref) -> Result<(), Refusal> {
-    // SAFETY: it is this thread's.
-    let given_back = unsafe { &*table() }.borrow_mut().give_back(given);
+    let given_back = own_table()?.give_back(given);
     given_back.ok_or_else(|| refusal(HZ_UNKNOWN_PASS))
 }
 
@@ -232,9 +238,7 @@ pub fn with_exclusive<T>(
     given: &hz_ref,
     call: impl FnOnce(Option<&mut PageMut<'static>>) -> T,
 ) -> Result<T, Refusal> {
-    // SAFETY: it is this thread's.
-    let mut table = unsafe { &*table() }.borrow_mut();
-    match table.of(given) {
+    match own_table()?.of(given) {
         Some(slot) if slot.how == HZ_EXCLUSIVE => {
             // SAFETY: the guard is what `how` says.
             let page = unsafe { &mut slot.guard.exclusive };

@@ -203,10 +203,11 @@ pub unsafe extern "C" fn hz_pager_new_file(
         let file = file.ok_or(Error::BadSettings)?;
         let pages = match config.pages {
             0 => file.pages(config.page_size),
-            some => Ok(some),
+            some => Ok(Some(some)),
         };
         let pages =
             pages.map_err(|error| hz_pager_fault::of_error(HZ_READ_FAILED, &error).note())?;
+        let pages = pages.ok_or(Error::BadGeometry)?;
         make(&config.settings(pages), Device::File(file), handle)
     })
 }

@@ -101,8 +101,9 @@ use std::time::{Duration, Instant};
 /// is refused where it would wait for the function that it is in: with [`Error::Busy`] for a page that
 /// the function is to read or write out; with [`PagerError::Log`] in `make_log_durable`, where a page
 /// has to make way whose record is not durable; with [`PagerError::Sync`] in [`sync`](PageIo::sync).
-/// And it waits for a latch, or for another thread's device work, no longer than
-/// [`SharedConfig::pin_wait`], after which it is refused with [`Error::Busy`].
+/// And it waits for a latch, or for a page that another thread reads or writes out, no longer than
+/// [`SharedConfig::pin_wait`], after which it is refused with [`Error::Busy`]. Turns at the log and at
+/// the sync have no such end: `sync` must not wait for the log, nor `make_log_durable` for a sync.
 ///
 /// # What counts as a reference
 /// Each call that returns a page is a reference to it, by which LRU-K chooses victims, and moves
@@ -112,12 +113,14 @@ use std::time::{Duration, Instant};
 /// further references would count as the same one.
 ///
 /// Such pins are told to LRU-K later: when a page is to make way, and at the latest after 32 of them.
-/// The clock moves on by their number, and they are one reference. Two things are given up by that, of
-/// pages that are pinned or were used within the period:
+/// The clock moves on by their number, and they are one reference. Three things are given up by that, the
+/// first two of pages that are pinned or were used within the period:
 ///
 /// - The order of their uses between two reads of pages. LRU-K learns them page by page. Where they go
 ///   on for longer than the period while no page is read, they may count as fewer references.
 /// - When the newest use of a page was, to the tick, where others joined it within the period.
+/// - A read that needs a frame gives back 32 such pages at most, those that wait longest. Others that
+///   nobody uses either stay for now, and the victim is the one of LRU-K among the rest.
 ///
 /// With a correlated period of 0 only a page that is pinned already is pinned without a lock: 32 such
 /// pins are one reference, and fewer are none. Nothing is given up with
@@ -126,8 +129,8 @@ use std::time::{Duration, Instant};
 /// # Where a call fails
 /// Nothing is lost where the device or the log fails or panics: the page that was to be read is in
 /// no frame, and the one that was to be written out is unsaved. Other pages can be used: a victim
-/// that could not be written out counts as used just then, so the next call chooses another. Where
-/// the pager is dropped, pages that were not written out are lost.
+/// that could not be written out counts as used just then, so a later call chooses another: the next
+/// one, or with a correlated period of 0 one after up to K such calls. Where the pager is dropped, pages that were not written out are lost.
 pub struct SharedPager<F> {
     pub(super) parts: Box<[Part]>,
     /// If the number of parts is a power of two, its exponent.
@@ -409,17 +412,22 @@ impl<F: PageIo> SharedPager<F> {
                     return self.load(part, own, asked, Reading::new(part, state, ticket));
                 }
                 Ok(Fix::Write(ticket)) => {
+                    patience.has_aged = false;
                     let (victim, lsn) = (part.in_file(ticket.page()), ticket.lsn());
                     self.write_out(victim, lsn, Writing::new(part, state, ticket, true))?;
                     part.lock()
                 }
                 Err(Error::NeedLog { lsn }) => {
+                    patience.has_aged = false;
                     let unlogged = Unlogged::new(part, state);
                     let locked = self.reach_log(part, lsn)?;
                     unlogged.end();
                     locked
                 }
-                Err(Error::Busy) => part.wait_for_work(state, own)?,
+                Err(Error::Busy) => {
+                    patience.has_aged = false;
+                    part.wait_for_work(state, own)?
+                }
                 Err(Error::NoVictim) => patience.make_way(state)?,
                 Err(error) => return Err(error.into()),
             };

@@ -205,6 +205,8 @@ impl<F: PageIo> SharedPager<F> {
                 Err(Error::Busy) if latch.is_some() => {
                     drop(state);
                     latch = None;
+                    // Without the latch the next round waits for that work.
+                    rounds = 0;
                 }
                 Err(Error::Busy) => drop(part.wait_for_work(state, own)?),
                 other => {

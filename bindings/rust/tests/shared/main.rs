@@ -14,6 +14,7 @@ mod panics;
 mod refusals;
 mod rows;
 mod spread;
+mod stalls;
 mod stress;
 mod turns;
 mod upkeep;
