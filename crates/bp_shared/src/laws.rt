@@ -31,7 +31,8 @@ pub fn held_pages_are_pinned()
 /// after it what the client did since. So a checkpoint by a session that saw a receipt is of a trail with all that any
 /// session told before it showed itself and the receipt the trail.
 pub fn receipts_have_what_was_told()
-    ensures { (start noted seen : Trail) (client : ℕ) (said : Trail) → IsListOf start noted client said
+    ensures { (start noted seen : Trail) (client : ℕ) (said : Trail) →
+        IsListOf start noted client said
         → GoesOnFrom noted seen → (later : Trail) × IsListOf start seen client (later ++ said) }
 {}
 

@@ -286,7 +286,8 @@ pub fn pages_hold_the_plain_map()
     ensures held { (c : Parameters) (past : Trail) → Legal c past → HeldIsPlain past }
     ensures content { (c : Parameters) (past : Trail) → Legal c past → EachEntry AnswersPlain past }
     ensures sent { (c : Parameters) (past : Trail) → Legal c past → EachEntry SendsPlain past }
-    ensures each_page { (m : ℕ → List ℕ) (p : ℕ) (past : Trail) → Honest m past → HonestOf m p past }
+    ensures each_page { (m : ℕ → List ℕ) (p : ℕ) (past : Trail) → Honest m past →
+        HonestOf m p past }
 {}
 
 /// At each eviction of a legal trail the page is the victim, a candidate that comes before every other and that none

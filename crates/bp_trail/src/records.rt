@@ -35,9 +35,11 @@ pub fn redo_record(
     image: &mut Image,
 ) -> Result<(), Refusal>
     ensures redone { OnOk result (image.new ≡ redo from (change.now ∷ []) page image.old) }
-    ensures fitted { OnOk result (AllFit (length image.old) (records_from from (change.now ∷ []) page)) }
+    ensures fitted { OnOk result (AllFit (length image.old) (records_from from
+        (change.now ∷ []) page)) }
     ensures unchanged { OnErr result (image.new ≡ image.old) }
-    ensures fits { AllFit (length image.old) (records_from from (change.now ∷ []) page) → IsOk result }
+    ensures fits { AllFit (length image.old) (records_from from (change.now ∷ []) page) →
+        IsOk result }
     ensures misfit { IfErr result (λ why. why ≡ OutOfPage) }
     ensures size { length image.new ≡ length image.old }
 {
@@ -66,10 +68,12 @@ pub fn redo_page(
     image: &mut Image,
 ) -> Result<(), Refusal>
     ensures redone { OnOk result (image.new ≡ redo from (reverse log.now) page image.old) }
-    ensures fitted { OnOk result (AllFit (length image.old) (records_from from (reverse log.now) page)) }
+    ensures fitted { OnOk result (AllFit (length image.old) (records_from from
+        (reverse log.now) page)) }
     ensures stopped { OnErr result ((first : FirstMisfit (length image.old) from page log.now)
         × (image.new ≡ redo from (reverse first.before) page image.old)) }
-    ensures fits { AllFit (length image.old) (records_from from (reverse log.now) page) → IsOk result }
+    ensures fits { AllFit (length image.old) (records_from from (reverse log.now) page) →
+        IsOk result }
     ensures misfit { IfErr result (λ why. why ≡ OutOfPage) }
     ensures size { length image.new ≡ length image.old }
 {

@@ -34,7 +34,8 @@ pub fn redo_recovers_each_page()
         (s : Stopped c first synced past log start from end p) →
         NeverFall (records_from start log p) → MayHave first synced past p image →
         redo from log p image ≡ put s.has.unwritten (plain_map first (within end past) p) }
-    ensures whole { (c : Parameters) (first : ℕ → List ℕ) (synced past : Trail) (log : List LogRecord)
+    ensures whole { (c : Parameters) (first : ℕ → List ℕ) (synced past : Trail)
+        (log : List LogRecord)
         (end p : ℕ) (image : List ℕ) → Legal c past → GaveBack c.size first end past p → durable past ≤ end →
         records_from 0 log p ≡ records p (within end past) → MayHave first synced past p image →
         redo 0 log p image ≡ plain_map first (within end past) p }
@@ -117,7 +118,8 @@ pub fn redo_by_page_lsn_recovers_each_page()
 /// That least LSN may be asked for before the sync begins: the device has no other images by a newer sync than it may
 /// have by an older one. From the next LSN on come the later writes of this page. Other pages may have others.
 pub fn checkpoint_gives_a_redo_point()
-    ensures point { (synced late : Trail) (least : Option ℕ) (next p : ℕ) → IsRedoFrom synced least →
+    ensures point { (synced late : Trail) (least : Option ℕ) (next p : ℕ) →
+        IsRedoFrom synced least →
         WritesFrom next p late → IsRedoPoint (redo_point least next) synced (late ++ synced) p }
     ensures recovered { (c : Parameters) (first : ℕ → List ℕ) (synced late : Trail)
         (log : List LogRecord) (least : Option ℕ) (start next end p : ℕ) (image : List ℕ) →
@@ -127,7 +129,8 @@ pub fn checkpoint_gives_a_redo_point()
         NeverFall (records_from start log p) → IsRedoFrom synced least → WritesFrom next p late →
         MayHave first synced (late ++ synced) p image → redo (redo_point least next) log p image ≡ put
         h.unwritten (plain_map first (within end (late ++ synced)) p) }
-    ensures asked_before { (first : ℕ → List ℕ) (newer synced past : Trail) (p : ℕ) (image : List ℕ) →
+    ensures asked_before { (first : ℕ → List ℕ) (newer synced past : Trail) (p : ℕ)
+        (image : List ℕ) →
         MayHave first (newer ++ synced) past p image → MayHave first synced past p image }
     ensures asked_before_stamped { (first : ℕ → Content) (newer synced past : Trail) (p : ℕ)
         (x : Content) → MayHaveStamped first (newer ++ synced) past p x →
@@ -166,7 +169,8 @@ pub fn full_images_recover_torn_pages()
     ensures any { (log : List LogRecord) (from p : ℕ) (a b : List ℕ) →
         HasFullImage (length a) (records_from from log p) → length b ≡ length a →
         redo from log p a ≡ redo from log p b }
-    ensures torn { (c : Parameters) (first : ℕ → List ℕ) (synced past : Trail) (log : List LogRecord)
+    ensures torn { (c : Parameters) (first : ℕ → List ℕ) (synced past : Trail)
+        (log : List LogRecord)
         (start from end p : ℕ) (torn : List ℕ) →
         Stopped c first synced past log start from end p → NeverFall (records_from start log p) →
         HasFullImage (length torn) (records_from from log p) → length torn ≡ length (first p) →

@@ -60,7 +60,8 @@ fn fix<N: PoolName, P: Port, R: Wait>(
     requires page_in { page < N.parameters.pages }
     requires held { held.old.passes ≡ held_passes client.old.session.said }
     ensures same { Stays client.old.session client.new.session }
-    ensures work { DoesWorkSaid P.read_gives P.write_gives client.old.session.said client.new.session.said
+    ensures work { DoesWorkSaid P.read_gives P.write_gives client.old.session.said
+        client.new.session.said
         client.old.port client.new.port }
     ensures outcome { StepSaid client.old.session.client (Step.Fix page)
         (outcome_of result) client.old.session.said client.new.session.said }
@@ -80,7 +81,8 @@ fn flush<N: PoolName, P: Port, R: Wait>(
 ) -> Result<(), Refusal>
     requires page_in { page < N.parameters.pages }
     ensures same { Stays client.old.session client.new.session }
-    ensures work { DoesWorkSaid P.read_gives P.write_gives client.old.session.said client.new.session.said
+    ensures work { DoesWorkSaid P.read_gives P.write_gives client.old.session.said
+        client.new.session.said
         client.old.port client.new.port }
     ensures outcome { StepSaid client.old.session.client (Step.Flush page)
         (outcome_of result) client.old.session.said client.new.session.said }
@@ -231,7 +233,8 @@ pub(crate) fn step<N: PoolName, P: Port, R: Wait>(
     requires fits { StepFits N.parameters step.now }
     requires held { held.old.passes ≡ held_passes client.old.session.said }
     ensures same { Stays client.old.session client.new.session }
-    ensures work { StepWork P.read_gives P.write_gives step.now client.old.session.said client.new.session.said
+    ensures work { StepWork P.read_gives P.write_gives step.now client.old.session.said
+        client.new.session.said
         client.old.port client.new.port }
     ensures outcome { StepSaid client.old.session.client step.now
         (outcome_of result) client.old.session.said client.new.session.said }
