@@ -16,6 +16,9 @@
  * bool that is not 0 or 1; two calls on one core at once; a write to a page that hz_page lent; a look at one after its
  * pass went back, or while hz_write is at work there. Two structs of a call may be one: hz_read_end may put its pass
  * where its ticket is.
+ *
+ * What is yes or no has a name with is_ or has_. Where it is passed to the library, it is a bool. Where the library
+ * tells it, it is a uint8_t of 1 or 0; and where a has_ is 0, what is there or not is 0 too.
  */
 #ifndef HOJZMATED_H
 #define HOJZMATED_H
@@ -30,7 +33,7 @@ extern "C" {
 
 /* The version of this header; hz_version tells that of the library. */
 #define HZ_VERSION_MAJOR 0
-#define HZ_VERSION_MINOR 11
+#define HZ_VERSION_MINOR 12
 #define HZ_VERSION_PATCH 0
 #define HZ_VERSION (HZ_VERSION_MAJOR * 10000 + HZ_VERSION_MINOR * 100 + HZ_VERSION_PATCH)
 
@@ -51,6 +54,7 @@ enum hz_refusal {
                            of room */
     HZ_CLOCK_FULL = 21,
     HZ_OUT_OF_MEMORY = 22,
+    HZ_PAGE_PINNED = 25,
     HZ_BAD_CLIENT = 41,
     HZ_OUT_OF_PAGE = 45,
     HZ_NO_CORE = 50,
@@ -71,9 +75,10 @@ enum hz_kind {
  * may be used. */
 typedef struct hz_core {
     struct {
-        void *pool;
+        void *pool; /* the library's own, where there is a core */
     } seal;
-    bool is_live;
+    bool is_live; /* true from hz_core_new to hz_core_free, while there is a core. It is for the library, which refuses
+                     a call on a handle without one */
 } hz_core;
 
 /* What a core is made with. */
@@ -119,12 +124,13 @@ typedef struct hz_stats {
     uint64_t evictions; /* pages that left a frame for another */
     uint64_t writes;    /* write-outs that went well */
     uint64_t failed;    /* reads and write-outs that failed */
-    uint64_t refused;   /* calls that were refused with HZ_NO_VICTIM, HZ_NEED_LOG or HZ_BUSY */
+    uint64_t refused;   /* calls that were refused with HZ_NO_VICTIM, HZ_NEED_LOG, HZ_BUSY or HZ_PAGE_PINNED */
     size_t resident;    /* pages in frames */
     size_t pinned;      /* of these, pages of which a pass is out */
     size_t unsaved;     /* of these, pages that are unsaved */
     size_t loading;     /* pages that are being read */
     size_t writing;     /* pages that are being written out */
+    uint64_t discards;  /* pages that left a frame by hz_discard */
 } hz_stats;
 
 /* Makes a core in a handle that has none. Refused: HZ_HAS_CORE; HZ_BAD_GEOMETRY for pages and page_size,
@@ -152,11 +158,13 @@ uint16_t hz_fix(hz_core *core, uint8_t client, uint64_t page, uint8_t *buffer, s
  * size; HZ_UNKNOWN_TICKET; HZ_OUT_OF_MEMORY. After the first and the last the ticket is still out. */
 uint16_t hz_read_end(hz_core *core, const hz_grant *ticket, const uint8_t *image, size_t len, hz_grant *pass);
 
-/* Ends a read that failed, or that found another page. Refused: HZ_UNKNOWN_TICKET. */
+/* Ends a read that was not good: is_wrong_page is true where it found another page, and false where the device failed.
+ * Refused: HZ_UNKNOWN_TICKET. */
 uint16_t hz_read_failed(hz_core *core, const hz_grant *ticket, bool is_wrong_page);
 
-/* Ends a write-out. is_still_dirty gets 1 where the page is unsaved still: the write-out was not good, or the page was
- * written to since it began. Else it gets 0. Refused: HZ_UNKNOWN_TICKET. */
+/* Ends a write-out: is_good is true where the image is on the device, and false where that failed. is_still_dirty gets
+ * 1 where the page is unsaved still: the write-out was not good, or the page was written to since it began. Else it
+ * gets 0. Refused: HZ_UNKNOWN_TICKET. */
 uint16_t hz_write_end(hz_core *core, const hz_grant *ticket, bool is_good, uint8_t *is_still_dirty);
 
 /* Gives a pass back. Refused: HZ_UNKNOWN_PASS. */
@@ -186,6 +194,13 @@ uint16_t hz_mark(hz_core *core, uint8_t client, uint64_t lsn);
  * as in hz_fix. Refused: HZ_BAD_CLIENT; HZ_OUT_OF_PAGE; HZ_TRAIL_FULL, where the room left is less than 2; HZ_BUSY,
  * where the page is being read or written; HZ_NEED_LOG as in hz_fix; HZ_OUT_OF_MEMORY where it is to be written. */
 uint16_t hz_flush(hz_core *core, uint8_t client, uint64_t page, uint8_t *buffer, size_t len, hz_fixed *out);
+
+/* Has a page leave its frame without being written out, for a page that is of no use any longer, as of a file that is
+ * truncated: its writes that no good write-out began after are lost. So first make durable what frees it for good
+ * (docs/RULES.md). Its references are forgotten too. It waits for no log and takes no memory. was_resident gets 1, or 0
+ * where the page was in no frame. Refused: HZ_BAD_CLIENT; HZ_OUT_OF_PAGE; HZ_TRAIL_FULL; HZ_BUSY where the page is
+ * being read or written; HZ_PAGE_PINNED where a pass of it is out. */
+uint16_t hz_discard(hz_core *core, uint8_t client, uint64_t page, uint8_t *was_resident);
 
 /* Forgets pages that are away and whose newest reference is older than the retained period. count gets how many.
  * Refused: HZ_BAD_CLIENT, HZ_TRAIL_FULL. */

@@ -481,6 +481,21 @@ static void try_purge(void)
     m.entries += !wanted;
 }
 
+static void try_discard(void)
+{
+    how h = picked(2);
+    uint8_t client = a_client(), was_here = ODD;
+    uint64_t page = a_page();
+    *flag = ODD;
+    uint16_t number = noted(hz_discard(h.core, client, page, UNLESS(1, flag))), wanted = early(h, false);
+    if (!wanted)
+        wanted = misfit(client, page, m.config.page_size, 1);
+    if (!wanted)
+        wanted = model_discard(client, page, &was_here);
+    SAME(wanted, number);
+    SAME(was_here, *flag);
+}
+
 static void try_page_lsn(void)
 {
     how h = picked(3);
@@ -705,7 +720,7 @@ static void call(void)
     else if (which >= 70 && which < 75)
         try_fix(true);
     else if (which >= 75 && which < 77)
-        try_purge();
+        (one_in(2) ? try_purge : try_discard)();
     else if (which >= 77 && which < 80)
         (which < 78 ? a_teller() : which < 79 ? try_text : try_new)();
     else if (m.passes.count < OUT - 1)
@@ -757,7 +772,7 @@ int LLVMFuzzerTestOneInput(const uint8_t *bytes, size_t len)
  * which are answers of hz_file.h; and that each call that must leave lent pages in place came while some were lent. */
 static void look_whether_all_came(void)
 {
-    static const uint8_t numbers[] = {0, 1, 2, 11, 12, 13, 14, 16, 20, 21, 41, 45, 50, 51, 52};
+    static const uint8_t numbers[] = {0, 1, 2, 11, 12, 13, 14, 16, 20, 21, 25, 41, 45, 50, 51, 52};
     for (size_t i = 0; i < sizeof numbers; i++) {
         SAME(true, came[numbers[i]] > 0);
         printf("%u: %lu%s", numbers[i], (unsigned long)came[numbers[i]], i + 1 < sizeof numbers ? ", " : "\n");

@@ -141,7 +141,7 @@ typedef struct answer {
 
 static answer refused(uint16_t number, uint8_t client, uint64_t page, uint64_t lsn)
 {
-    m.counted.refused += number == HZ_NO_VICTIM || number == HZ_NEED_LOG || number == HZ_BUSY;
+    m.counted.refused += number == HZ_NO_VICTIM || number == HZ_NEED_LOG || number == HZ_BUSY || number == HZ_PAGE_PINNED;
     return (answer){.number = number, .out = {.grant = {.page = page, .client = client}, .lsn = lsn}};
 }
 
@@ -224,6 +224,22 @@ static answer model_flush(uint8_t client, uint64_t number, size_t len)
     if (a.number == 0)
         a.out.kind = page->is_here ? HZ_CLEAN : HZ_ABSENT;
     return a;
+}
+
+/* Returns the number of a discard, and puts into the flag whether the page was in a frame. */
+static uint16_t model_discard(uint8_t client, uint64_t number, uint8_t *was_here)
+{
+    model_page *page = &m.pages[number];
+    m.entries++;
+    if (page->is_reading || page->is_writing)
+        return refused(HZ_BUSY, client, number, 0).number;
+    if (page->pins)
+        return refused(HZ_PAGE_PINNED, client, number, 0).number;
+    *was_here = page->is_here;
+    m.counted.discards += page->is_here;
+    page->is_here = page->is_unsaved = false;
+    page->bursts = 0;
+    return 0;
 }
 
 /* Returns true if a purge forgets the page. */

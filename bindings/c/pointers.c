@@ -22,6 +22,7 @@ PROVED(hz_write);
 PROVED(hz_tick);
 PROVED(hz_mark);
 PROVED(hz_flush);
+PROVED(hz_discard);
 PROVED(hz_purge);
 PROVED(hz_page_lsn);
 PROVED(hz_next_unsaved);
@@ -148,6 +149,11 @@ uint16_t hz_flush(hz_core *core, uint8_t client, uint64_t page, uint8_t *buffer,
     if (!core || is_null(buffer, len) || !out)
         return HZ_NULL;
     return proved_hz_flush(core, client, page, buffer ? buffer : &nowhere, length_of(len), out);
+}
+
+uint16_t hz_discard(hz_core *core, uint8_t client, uint64_t page, uint8_t *was_resident)
+{
+    return core && was_resident ? proved_hz_discard(core, client, page, was_resident) : HZ_NULL;
 }
 
 uint16_t hz_purge(hz_core *core, uint8_t client, uint64_t *count)

@@ -45,7 +45,7 @@ LIES(hz_unsaved, lsn, 8, 8);
 LIES(hz_unsaved, first_lsn, 16, 8);
 LIES(hz_unsaved, has_page, 24, 1);
 
-HOLDS(sizeof(hz_stats) == 88);
+HOLDS(sizeof(hz_stats) == 96);
 LIES(hz_stats, hits, 0, 8);
 LIES(hz_stats, faults, 8, 8);
 LIES(hz_stats, evictions, 16, 8);
@@ -57,3 +57,4 @@ LIES(hz_stats, pinned, 56, 8);
 LIES(hz_stats, unsaved, 64, 8);
 LIES(hz_stats, loading, 72, 8);
 LIES(hz_stats, writing, 80, 8);
+LIES(hz_stats, discards, 88, 8);

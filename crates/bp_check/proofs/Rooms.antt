@@ -1,13 +1,12 @@
 -- Which trails are legal does not hang on the room.
-use Rattle.std.proofs.Common.{◌≡◌, ℕ, zero, suc, Bool, not, ◌&&◌, cond, List, [], ◌∷◌, filter, find, Some, None, inl, inr, refl, sym, ap, ◌∙◌}
+use Rattle.std.proofs.Common.{◌≡◌, ℕ, Bool, not, ◌&&◌, cond, List, [], ◌∷◌, filter, find, Some, None, inl, inr, refl, sym, ap, ◌∙◌}
 use Rattle.std.specs.Prelude.{if◌then◌else◌}
-use Rattle.bp_references.specs.Numbers.{count_below}
 use Rattle.bp_references.specs.Burst.{last_time}
 use Rattle.bp_replacer.proofs.PurgeLaws.{count_below_same}
 use Rattle.bp_references.specs.Stamp.{stamp}
 use Rattle.bp_trail.specs.declared.entries.Entry.{Entry}
 use Rattle.bp_trail.specs.declared.entries.Call.{Call}
-use Rattle.bp_trail.specs.declared.entries.Call.TheVariants.{Tick, Mark, Fix, ReadEnd, WriteEnd, Read, Write, Unfix, Flush, Purge}
+use Rattle.bp_trail.specs.declared.entries.Call.TheVariants.{Tick, Mark, Fix, ReadEnd, WriteEnd, Read, Write, Unfix, Flush, Discard, Purge}
 use Rattle.bp_trail.specs.declared.entries.Reply.{Reply}
 use Rattle.bp_trail.specs.declared.entries.Reply.TheVariants.{Hit, Load, Busy, Forgot}
 use Rattle.bp_trail.specs.Trail.{Trail}
@@ -68,6 +67,7 @@ module _ (s : Setup) (r : ℕ) where
   same-reply past (Fix p) = ap (λ o. if loading past p then Busy else if resident past p then Hit (passes past) else if has_free_frame (parameters_of s 0) past then Load (tickets past) None else replace_reply past o) (same-victim past)
   same-reply past Purge = ap Forgot (count_below_same (λ p. forgets (parameters_of s 0) past p (references (parameters_of s 0) past p)) (λ p. forgets (parameters_of s r) past p (references (parameters_of s r) past p)) s.geometry.pages (λ p below. same-forgets past p))
   same-reply past (Flush p) = refl
+  same-reply past (Discard p) = refl
   same-reply past (ReadEnd t p image) = refl
   same-reply past (WriteEnd t p good) = refl
   same-reply past (Read n p) = refl
@@ -80,6 +80,7 @@ module _ (s : Setup) (r : ℕ) where
   same-allowed past who (Fix p) = refl
   same-allowed past who Purge = refl
   same-allowed past who (Flush p) = refl
+  same-allowed past who (Discard p) = refl
   same-allowed past who (ReadEnd t p None) = refl
   same-allowed past who (ReadEnd t p (Some image)) = refl
   same-allowed past who (WriteEnd t p good) = refl

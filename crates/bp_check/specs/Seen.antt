@@ -4,7 +4,7 @@ use Rattle.std.specs.declared.vec.Vec.{Vec}
 use Rattle.bp_trail.specs.Parameters.{Parameters}
 use Rattle.bp_trail.specs.Trail.{Trail}
 use Rattle.bp_trail.specs.Lists.{some, and_given, without}
-use Rattle.bp_trail.specs.Event.{Grant, page_of, loaded, evicted, ends_well}
+use Rattle.bp_trail.specs.Event.{Grant, page_of, loaded, left, ends_well}
 use Rattle.bp_trail.specs.Clock.{clock, durable}
 use Rattle.bp_trail.specs.Passes.{passes, tickets, passes_out, reads_out, writes_out}
 use Rattle.bp_trail.specs.Places.{residents}
@@ -28,10 +28,11 @@ pub record Seen : Type 0 where
 abbrev pub passed_on : Option Grant → Option ℕ → List Grant → List Grant
 passed_on gives ends out = and_given gives (without (λ (g : Grant). g.serial) ends out)
 
--- of the resident pages, the one that an entry evicts goes, and the one that it loads comes
+-- of the resident pages, the one that leaves by an entry goes, and the one that it loads comes
 abbrev pub pages_after : Entry → List ℕ → List ℕ
 pages_after e pages =
-    and_given (loaded (page_of e.call) e.reply) (without (λ (q : ℕ). q) (evicted e.reply) pages)
+    and_given (loaded (page_of e.call) e.reply)
+    (without (λ (q : ℕ). q) (left (page_of e.call) e.reply) pages)
 
 -- the ticket, where it is this one
 abbrev pub is_ticket : ℕ → Option ℕ → Bool

@@ -1,4 +1,4 @@
-//! Functions of one entry: the pass or ticket that it gives or ends, the page that it loads, evicts or writes to. Each
+//! Functions of one entry: the pass or ticket that it gives or ends, the page that it loads, writes to, or has leave. Each
 //! function has the name of its definition.
 ghost use Rattle.std.specs.Prelude.{◌≡◌, ℕ, ◌==◌};
 ghost use Rattle.bp_trail.specs.Event as event;
@@ -20,6 +20,7 @@ pub(crate) fn page_of(call: &Call) -> PageNo
         Call::Write { page, .. } => *page,
         Call::Unfix { page, .. } => *page,
         Call::Flush(page) => *page,
+        Call::Discard(page) => *page,
         _ => PageNo::new(0),
     }
 }
@@ -173,14 +174,34 @@ pub(crate) fn loaded(e: &Entry) -> Option<PageNo>
     }
 }
 
-/// The page that leaves its frame.
-pub(crate) fn evicted(reply: &Reply) -> Option<PageNo>
-    ensures { result ≡ event.evicted reply.now }
+/// The page that leaves its frame, as it is evicted or discarded.
+pub(crate) fn left(e: &Entry) -> Option<PageNo>
+    ensures { result ≡ event.left (event.page_of e.now.call) e.now.reply }
 {
-    match reply {
+    match &e.reply {
         Reply::Load { evicted, .. } => *evicted,
+        Reply::Discarded => Some(page_of(&e.call)),
         _ => None,
     }
+}
+
+fn is_discard(call: &Call) -> bool
+    ensures { result ≡ event.is_discard call.now }
+{
+    matches!(call, Call::Discard(_))
+}
+
+fn is_away_reply(reply: &Reply) -> bool
+    ensures { result ≡ event.is_away_reply reply.now }
+{
+    matches!(reply, Reply::Discarded | Reply::Absent)
+}
+
+/// Returns true if a discard of the page was done: it left its frame, or was in none.
+pub(crate) fn discards(page: PageNo, e: &Entry) -> bool
+    ensures { result ≡ event.discards page e.now }
+{
+    is_away_reply(&e.reply) && is_discard(&e.call) && page_of(&e.call) == page
 }
 
 /// Returns true if the page is written to.

@@ -7,7 +7,7 @@ ghost use Rattle.bp_trail.specs.Saved as saved;
 ghost use Rattle.bp_trail.specs.Images as images;
 ghost use Rattle.bp_check.specs.Seen.{AreEnded};
 
-use crate::events::{begins, loads, lsn_written, writes};
+use crate::events::{begins, discards, loads, lsn_written, writes};
 use bp_page::{Lsn, PageNo};
 use bp_trail::{Call, Entry, Reply};
 use std::alloc::{AllocError, Global};
@@ -35,14 +35,22 @@ fn began_saving(ended: &[bool], page: PageNo, reply: &Reply) -> bool
     }
 }
 
-/// Returns true if some write of the page has no good write-out of it that began after it.
+/// Returns true if no write of the page before the entry is left to save.
+fn settles(ended: &[bool], page: PageNo, e: &Entry) -> bool
+    ensures { (past : Trail) → AreEnded past ended.now → result ≡ saved.settles past page e.now }
+{
+    discards(page, e) || began_saving(ended, page, &e.reply)
+}
+
+/// Returns true if some write of the page has no good write-out of it that began after it, and no discard of it after
+/// it.
 pub(crate) fn unsaved(past: &[Entry], ended: &[bool], page: PageNo) -> bool
     requires { AreEnded (reverse past.now) ended.now }
     ensures { result ≡ saved.unsaved (reverse past.now) page }
 {
     let mut is_unsaved = false;
     for e in past {
-        let is_saved = began_saving(ended, page, &e.reply);
+        let is_saved = settles(ended, page, e);
         is_unsaved = writes(page, e) || (!is_saved && is_unsaved);
     }
     is_unsaved

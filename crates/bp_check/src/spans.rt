@@ -125,6 +125,18 @@ pub(crate) fn refer_at(
     Ok(())
 }
 
+/// Drops the references of the page.
+pub(crate) fn drop_at(table: &mut [Vec<Span>], page: PageNo)
+    ensures count { length table.new ≡ length table.old }
+    ensures own { page < length table.old → spans_at table.new page ≡ [] }
+    ensures others { (q : ℕ) → q ≢ page → spans_at table.new q ≡ spans_at table.old q }
+{
+    let at = page.number();
+    if at < table.len() as u64 {
+        table[at as usize].clear();
+    }
+}
+
 /// Returns true if a purge at this time forgets a page with these references.
 fn outdated(
     known: &[Span],

@@ -15,7 +15,7 @@ use std::alloc::{AllocError, Global};
 
 /// The end of the help of `bpool run`.
 const STATUSES: &str = "\
-Without tick rows nothing leaves a frame. --retained acts at purge rows alone. bpool --help shows
+Without tick rows no page is evicted. --retained acts at purge rows alone. bpool --help shows
 a trace, and what each number says.
 Status 0: all rows were accepted. Status 1: some row was refused; the report says which, and why.
 Status 2: one line on standard error says why there is no report, or only a part of it.";
@@ -73,10 +73,11 @@ A trace is CSV without a header. A row is client,op,number,offset,bytes,lsn, whe
   0,unfix,7,,,      Lets go of page 7, which may then leave its frame
   0,flush,7,,,      Writes page 7 out, if it was changed
   0,log,5,,,        The log is durable as far as record 5
+  0,discard,7,,,    Drops page 7: it leaves its frame, and is not written out
   0,tick,1,,,       Moves the clock by 1
   0,purge,,,,       Forgets old references of pages that are in no frame
 
-Without tick rows nothing leaves a frame. --retained acts at purge rows alone.
+Without tick rows no page is evicted. --retained acts at purge rows alone.
 
 Numbers after the word refused:
 
@@ -96,6 +97,7 @@ Numbers after the word refused:
   22  out of memory
   23  the ring of passes to give back is full
   24  the clients' lists and the trail do not agree
+  25  the page is pinned
   40  a record does not have the fields of its operation, or lacks the column of a sweep
   41  no client has this number here
   42  no operation has this name

@@ -7,8 +7,8 @@ use Rattle.bp_references.specs.Burst.Reference.{hit, fault}
 use Rattle.bp_references.specs.Stamp.{stamp}
 use Rattle.bp_references.specs.Candidates.{Entered, entry_of, NoPageTwice, SameLimits}
 use Rattle.bp_trail.specs.declared.entries.Call.{Call}
-use Rattle.bp_trail.specs.declared.entries.Call.TheVariants.{Fix, ReadEnd, Unfix, Flush, Purge}
-use Rattle.bp_trail.specs.declared.entries.Reply.TheVariants.{Done, Hit, Load, WriteFirst, Fixed, Forgot}
+use Rattle.bp_trail.specs.declared.entries.Call.TheVariants.{Fix, ReadEnd, Unfix, Flush, Discard, Purge}
+use Rattle.bp_trail.specs.declared.entries.Reply.TheVariants.{Done, Hit, Load, WriteFirst, Fixed, Absent, Discarded, Forgot}
 use Rattle.bp_trail.specs.Parameters.{Parameters}
 use Rattle.bp_trail.specs.Event.{grant}
 use Rattle.bp_trail.specs.Trail.{Trail}
@@ -55,6 +55,16 @@ module _ (c : Parameters) (past : Trail) (e : Entered) (h : HasCandidates c past
       go q false r =
           let out : unused past q ≡ false = ap (λ b. b && ((pins past q == 0) && not (writing past q))) r in
           no-entry c past (by who Purge (Forgot n) ∷ past) q out ∙ sym (no-entry c past past q out)
+
+  -- a page that is away is discarded
+  pub stay-forget : (who p : ℕ) → resident past p ≡ false → HasCandidates c (by who (Discard p) Absent ∷ past) e
+  stay-forget who p away = stay (by who (Discard p) Absent ∷ past) (λ q. go q (p == q) refl)
+    where
+      go : (q : ℕ) (b : Bool) → (p == q) ≡ b → entry_for c (by who (Discard p) Absent ∷ past) q ≡ entry_for c past q
+      go q true same =
+          let out : unused past q ≡ false = ap (λ b. b && ((pins past q == 0) && not (writing past q))) (subst (λ r. resident past r ≡ false) (eqb-true p q same) away) in
+          no-entry c past (by who (Discard p) Absent ∷ past) q out ∙ sym (no-entry c past past q out)
+      go q false apart = same-entry c past (by who (Discard p) Absent ∷ past) q refl refl refl (ap (λ b. if b then [] else references c past q) apart)
 
   -- ---- one page's entry changes
   module _ (e' : Entered) (limits : SameLimits e e') (pages : NoPageTwice e.entries → NoPageTwice e'.entries) (p : ℕ) (others : (q : ℕ) → q ≢ p → entry_of e' q ≡ entry_of e q) where
@@ -124,6 +134,12 @@ module _ (c : Parameters) (past : Trail) (e : Entered) (h : HasCandidates c past
     move-evict who q n gone = move (by who (Fix q) (Load n (Some p)) ∷ past)
         (λ r other. same-entry c past (by who (Fix q) (Load n (Some p)) ∷ past) r (left-other p r (ne_eqb r p other) (residents past)) refl refl refl)
         (gone ∙ sym (no-entry c past (by who (Fix q) (Load n (Some p)) ∷ past) p (ap (λ b. b && ((pins past p == 0) && not (writing past p))) (left-none p (residents past)))))
+
+    -- a page is discarded
+    pub move-discard : (who : ℕ) → entry_of e' p ≡ None → HasCandidates c (by who (Discard p) Discarded ∷ past) e'
+    move-discard who gone = move (by who (Discard p) Discarded ∷ past)
+        (λ q other. same-entry c past (by who (Discard p) Discarded ∷ past) q (left-other p q (ne_eqb q p other) (residents past)) refl refl (ap (λ b. if b then [] else references c past q) (ne_eqb p q (λ i. other (sym i)))))
+        (gone ∙ sym (no-entry c past (by who (Discard p) Discarded ∷ past) p (ap (λ b. b && ((pins past p == 0) && not (writing past p))) (left-none p (residents past)))))
 
     -- a write-out begins
     pub move-begin : (who : ℕ) (call : Call) (n : ℕ) (image : List ℕ) → IsBegin call → entry_of e' p ≡ None → HasCandidates c (by who call (WriteFirst n p image) ∷ past) e'

@@ -41,6 +41,7 @@ same-agrees c past x who t p a = record {
   correlated_is = a.correlated_is;
   retained_is = a.retained_is;
   in_time = a.in_time;
+  by_now = a.by_now;
 }
 
 same-core : (c : Parameters) (trail : Kept) (x : State) (who t p : ℕ) → IsCore c (with_next trail who (ReadEnd t p None) ReadFailed) x → IsCore c (with_next trail who (ReadEnd t p None) WrongPage) x

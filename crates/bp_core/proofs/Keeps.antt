@@ -2,7 +2,7 @@
 use Rattle.std.proofs.Common.{◌≡◌, ℕ, Bool, suc, ◌+◌, ◌*◌, ◌^◌, ◌<◌, ◌≤◌, max, true, false, [], ◌∷◌, length, sym, ◌∙◌, ap, subst, arith, refl}
 use Rattle.std.proofs.lemmas.Bool.{lt-ltb}
 use Rattle.bp_references.specs.Numbers.{count_below}
-use Rattle.bp_replacer.specs.Histories.{Blocks, is_held, place_of, last_of, HasStampsOf, SameAt, SameSettings, KeepsPlaces, forgets}
+use Rattle.bp_replacer.specs.Histories.{Blocks, is_held, place_of, last_of, latest_of, HasStampsOf, SameAt, SameSettings, KeepsPlaces, forgets}
 use Rattle.bp_trail.specs.declared.entries.Entry.{Entry}
 use Rattle.bp_trail.specs.declared.entries.Call.{Call}
 use Rattle.bp_trail.specs.declared.entries.Call.TheVariants.{Tick, Mark, Purge}
@@ -19,7 +19,7 @@ use Rattle.bp_trail.specs.Legal.{allowed, is_out}
 use Rattle.bp_core.specs.CoreView.{CoreView, EachPast, with_entry, HasRoomFor}
 use Rattle.bp_keeper.specs.Kept.{Kept, with_next}
 use Rattle.bp_core.specs.Outcomes.{IsQuiet, Adds}
-use Rattle.bp_core.specs.Outcomes.IsQuiet.{fix_busy, fix_none, fix_log, flush_busy, flush_absent, flush_clean, flush_log, page_read}
+use Rattle.bp_core.specs.Outcomes.IsQuiet.{fix_busy, fix_none, fix_log, flush_busy, flush_absent, flush_clean, flush_log, discard_busy, discard_pinned, page_read}
 use Rattle.bp_core.specs.Agreement.{parts_of, HasCandidates, HasTrailRoom, IsCore, view_of}
 use Rattle.bp_core.proofs.Steps.{agrees-quiet, agrees-tick, agrees-mark}
 use Rattle.bp_core.proofs.Placed.{place-kept, placed-after, held-here, rehoused}
@@ -83,6 +83,8 @@ module _ (c : Parameters) (trail : Kept) (x : State) (core : IsCore c trail x) (
       same _ _ (flush_absent p) = stay c trail.past x.frames.candidates core.candidates _ (λ q. refl)
       same _ _ (flush_clean p) = stay c trail.past x.frames.candidates core.candidates _ (λ q. refl)
       same _ _ (flush_log p lsn) = stay c trail.past x.frames.candidates core.candidates _ (λ q. refl)
+      same _ _ (discard_busy p) = stay c trail.past x.frames.candidates core.candidates _ (λ q. refl)
+      same _ _ (discard_pinned p) = stay c trail.past x.frames.candidates core.candidates _ (λ q. refl)
       same _ _ (page_read n p image) = stay c trail.past x.frames.candidates core.candidates _ (λ q. refl)
 
       roomy : (call : Call) (reply : Reply) → IsQuiet call reply → HasTrailRoom c (with_next trail who call reply)
@@ -93,6 +95,8 @@ module _ (c : Parameters) (trail : Kept) (x : State) (core : IsCore c trail x) (
       roomy _ _ (flush_absent p) = longer c _ core.trail_room _ (omega (arith, at-room 1 room)) (omega arith) (omega arith)
       roomy _ _ (flush_clean p) = longer c _ core.trail_room _ (omega (arith, at-room 1 room)) (omega arith) (omega arith)
       roomy _ _ (flush_log p lsn) = longer c _ core.trail_room _ (omega (arith, at-room 1 room)) (omega arith) (omega arith)
+      roomy _ _ (discard_busy p) = longer c _ core.trail_room _ (omega (arith, at-room 1 room)) (omega arith) (omega arith)
+      roomy _ _ (discard_pinned p) = longer c _ core.trail_room _ (omega (arith, at-room 1 room)) (omega arith) (omega arith)
       roomy _ _ (page_read n p image) = longer c _ core.trail_room _ (omega (arith, at-room 1 room)) (omega arith) (omega arith)
 
   -- ---- the clock, the mark and the histories
@@ -121,11 +125,11 @@ module _ (c : Parameters) (trail : Kept) (x : State) (core : IsCore c trail x) (
   }
 
   pub keeps-purge : (who n : ℕ) (h : Blocks) → who < v.parameters.clients → HasRoomFor 1 v → ((bound : ℕ) → ((page : ℕ) → bound ≤ page → last_of x.histories page ≡ 0) → n ≡ count_below (forgets x.histories x.clock) bound) → SameSettings x.histories h
-      → ((p : ℕ) → forgets x.histories x.clock p ≡ true → HasStampsOf h p []) → ((p : ℕ) → forgets x.histories x.clock p ≡ false → SameAt x.histories h p) → ((p : ℕ) → is_held h p ≡ is_held x.histories p) → KeepsPlaces x.histories h
+      → ((p : ℕ) → forgets x.histories x.clock p ≡ true → HasStampsOf h p []) → ((p : ℕ) → forgets x.histories x.clock p ≡ false → SameAt x.histories h p) → ((p : ℕ) → is_held h p ≡ is_held x.histories p) → ((p : ℕ) → latest_of h p ≤ latest_of x.histories p) → KeepsPlaces x.histories h
       → IsCore c (with_next trail who Purge (Forgot n)) (record x { histories = h })
-  keeps-purge who n h client room counted settings gone kept held places =
+  keeps-purge who n h client room counted settings gone kept held later places =
       let a = core.agrees in
-      let next = agrees-purge c trail.past (parts_of x) a who n h (lt-ltb who c.clients (at-parameters (λ q. who < q.clients) client)) (counted c.pages (nothing-beyond c trail.past (parts_of x) a) ∙ count-same c trail.past (parts_of x) a) settings gone kept held in
+      let next = agrees-purge c trail.past (parts_of x) a who n h (lt-ltb who c.clients (at-parameters (λ q. who < q.clients) client)) (counted c.pages (nothing-beyond c trail.past (parts_of x) a) ∙ count-same c trail.past (parts_of x) a) settings gone kept held later in
       record {
         agrees = rehoused c _ _ next (place_of h) (λ q here. place-kept x.histories h places q (held-here c trail.past (parts_of x) a q here) (held-here c _ _ next q here));
         candidates = stay-purge c trail.past x.frames.candidates core.candidates who n;

@@ -8,7 +8,7 @@ use Rattle.bp_references.specs.Burst.{Reference}
 use Rattle.bp_references.specs.Burst.Reference.{fault}
 use Rattle.bp_references.specs.Stamp.{IsTimed}
 use Rattle.bp_references.specs.Candidates.{Entered, entry_of, NoPageTwice, SameLimits}
-use Rattle.bp_replacer.specs.Histories.{Blocks, is_held, place_of, HasStampsOf, SameAt, SameStampsAt, SameSettings, KeepsPlaces}
+use Rattle.bp_replacer.specs.Histories.{Blocks, latest_of, is_held, place_of, HasStampsOf, SameAt, SameStampsAt, SameSettings, KeepsPlaces}
 use Rattle.bp_trail.specs.declared.entries.Call.TheVariants.{Fix, ReadEnd}
 use Rattle.bp_trail.specs.declared.entries.Reply.TheVariants.{Load, Fixed, ReadFailed}
 use Rattle.bp_trail.specs.Passes.{reads_out}
@@ -164,14 +164,14 @@ module _ (c : Parameters) (trail : Kept) (x : State) (core : IsCore c trail x) (
         }
 
     pub keeps-end_load : (rs : Given) → rs.out ≡ filter (λ g. not (g.serial == t)) x.reads.out → GivesAsMuch x.reads rs → (block : ℕ) → place_of x.histories p ≡ Some block → (image : List ℕ) → length image ≡ v.parameters.size → (fs : Table) → IsPermutation (loaded_with p block image ∷ x.frames.frames) fs.frames → fs.empty_frames + 1 ≡ x.frames.empty_frames → fs.size ≡ x.frames.size → fs.capacity ≡ x.frames.capacity → fs.pages ≡ x.frames.pages → fs.candidates ≡ x.frames.candidates
-        → (h : Blocks) → SameSettings x.histories h → ((refs : List Reference) → IsTimed refs → HasStampsOf x.histories p refs → HasStampsOf h p (fault x.clock ∷ refs)) → ((q : ℕ) → q ≢ p → SameAt x.histories h q) → is_held h p ≡ true → KeepsPlaces x.histories h
+        → (h : Blocks) → SameSettings x.histories h → ((refs : List Reference) → IsTimed refs → HasStampsOf x.histories p refs → HasStampsOf h p (fault x.clock ∷ refs)) → ((q : ℕ) → q ≢ p → SameAt x.histories h q) → is_held h p ≡ true → latest_of h p ≡ x.clock → KeepsPlaces x.histories h
         → IsCore c (with_next trail who (ReadEnd t p (Some image)) (Fixed x.passes_given))
         (record x { passes_given = x.passes_given + 1; passes = with_grant x.passes who p x.passes_given; reads = rs; frames = fs; histories = h })
-    keeps-end_load rs left more block place image fits fs moved empty_frames size capacity in_file same_candidates h settings stamps others kept places =
+    keeps-end_load rs left more block place image fits fs moved empty_frames size capacity in_file same_candidates h settings stamps others kept newest places =
         let a = core.agrees in
         let refs = references c trail.past p in
         let stamped = subst (λ u. HasStampsOf h p (fault u ∷ refs)) a.observed.clock_is (stamps refs (references-timed c trail.past p).timed (a.observed.stamps_are p)) in
-        let next = agrees-fixed c trail.past (parts_of x) a who p t out-now h settings block place image (given (λ q. length image ≡ q.size) fits) fs.frames moved stamped others kept in
+        let next = agrees-fixed c trail.past (parts_of x) a who p t out-now h settings block place image (given (λ q. length image ≡ q.size) fits) fs.frames moved stamped others kept (omega (arith, newest, a.observed.clock_is)) in
         let was = held-before x.histories h p others held-now in
         record {
           agrees = rw left (rehoused c _ _ next (place_of h) (λ q here. let holds = held-here c _ _ next q here in place-kept x.histories h places q (was q holds) holds));

@@ -7,7 +7,7 @@ use Rattle.bp_references.specs.Burst.{Reference}
 use Rattle.bp_references.specs.Burst.Reference.{hit}
 use Rattle.bp_references.specs.Stamp.{IsTimed}
 use Rattle.bp_references.specs.Candidates.{Entered, entry_of, NoPageTwice, SameLimits}
-use Rattle.bp_replacer.specs.Histories.{Blocks, is_held, place_of, stamp_of, last_of, HasStampsOf, SameAt, SameSettings, KeepsPlaces}
+use Rattle.bp_replacer.specs.Histories.{Blocks, latest_of, is_held, place_of, stamp_of, last_of, HasStampsOf, SameAt, SameSettings, KeepsPlaces}
 use Rattle.bp_trail.specs.declared.entries.Call.TheVariants.{Fix, Write, Unfix}
 use Rattle.bp_trail.specs.declared.entries.Reply.TheVariants.{Done, Hit}
 use Rattle.bp_trail.specs.Passes.{passes_out, is_of, pins}
@@ -109,14 +109,14 @@ module _ (c : Parameters) (trail : Kept) (x : State) (core : IsCore c trail x) (
 
   pub keeps-hit : (who p : ℕ) → who < v.parameters.clients → p < v.parameters.pages → EachPast v (λ past. resident past p ≡ true) → HasRoomFor 3 v
       → (ps : Given) → ps.out ≡ x.passes.out → length x.reads.out + 1 ≤ ps.room
-      → (h : Blocks) → SameSettings x.histories h → ((refs : List Reference) → IsTimed refs → HasStampsOf x.histories p refs → HasStampsOf h p (hit x.clock ∷ refs)) → ((q : ℕ) → q ≢ p → SameAt x.histories h q) → is_held h p ≡ true → KeepsPlaces x.histories h
+      → (h : Blocks) → SameSettings x.histories h → ((refs : List Reference) → IsTimed refs → HasStampsOf x.histories p refs → HasStampsOf h p (hit x.clock ∷ refs)) → ((q : ℕ) → q ≢ p → SameAt x.histories h q) → is_held h p ≡ true → latest_of h p ≡ x.clock → KeepsPlaces x.histories h
       → (e : Entered) → SameLimits x.frames.candidates e → (NoPageTwice x.frames.candidates.entries → NoPageTwice e.entries) → ((q : ℕ) → q ≢ p → entry_of e q ≡ entry_of x.frames.candidates q) → entry_of e p ≡ None
       → IsCore c (with_next trail who (Fix p) (Hit x.passes_given)) (record x { passes_given = x.passes_given + 1; passes = with_grant ps who p x.passes_given; frames = record (with_changed x.frames p pinned) { candidates = e }; histories = h })
-  keeps-hit who p client page here room ps same ready h settings stamps others kept places e limits pages leaves gone =
+  keeps-hit who p client page here room ps same ready h settings stamps others kept newest places e limits pages leaves gone =
       let a = core.agrees in
       let refs = references c trail.past p in
       let stamped = subst (λ t. HasStampsOf h p (hit t ∷ refs)) a.observed.clock_is (stamps refs (references-timed c trail.past p).timed (a.observed.stamps_are p)) in
-      let next = agrees-hit c trail.past (parts_of x) a who p h (lt-ltb who c.clients (given (λ q. who < q.clients) client)) (lt-ltb p c.pages (given (λ q. p < q.pages) page)) (at (λ q past. resident past p ≡ true) here) settings stamped others kept in
+      let next = agrees-hit c trail.past (parts_of x) a who p h (lt-ltb who c.clients (given (λ q. who < q.clients) client)) (lt-ltb p c.pages (given (λ q. p < q.pages) page)) (at (λ q past. resident past p ≡ true) here) settings stamped others kept (omega (arith, newest, a.observed.clock_is)) in
       let was = held-here c trail.past (parts_of x) a in
       let moved = rehoused c _ _ next (place_of h) (λ q here. place-kept x.histories h places q (was q here) (held-here c _ _ next q here)) in
       record {

@@ -4,7 +4,7 @@ use Rattle.std.proofs.lemmas.Bool.{le-leb, and_from, eqb-true, eqb-false, false_
 use Rattle.std.proofs.lemmas.Bool.Decides.{nat_tests}
 use Rattle.bp_page.specs.Patched.{patched}
 use Rattle.bp_references.specs.Burst.Reference.{hit}
-use Rattle.bp_replacer.specs.Histories.{Blocks, is_held, HasStampsOf, SameAt, SameSettings}
+use Rattle.bp_replacer.specs.Histories.{Blocks, is_held, latest_of, HasStampsOf, SameAt, SameSettings}
 use Rattle.bp_trail.specs.declared.entries.Call.TheVariants.{Fix, Write, Unfix}
 use Rattle.bp_trail.specs.declared.entries.Reply.TheVariants.{Done, Hit}
 use Rattle.bp_frames.specs.declared.frame.Frame.{Frame}
@@ -79,6 +79,7 @@ module _ (c : Parameters) (past : Trail) (x : Parts) (a : Agrees c past x) where
           correlated_is = a.correlated_is;
           retained_is = a.retained_is;
           in_time = a.in_time;
+          by_now = a.by_now;
         }
       where
         one : (q : ℕ) (b : Bool) → (q == p) ≡ b → frame_of (by who (Unfix n p) Done ∷ past) q (x.places q) ≡ (if b then unpinned (frame_of past q (x.places q)) else frame_of past q (x.places q))
@@ -116,6 +117,7 @@ module _ (c : Parameters) (past : Trail) (x : Parts) (a : Agrees c past x) where
           correlated_is = a.correlated_is;
           retained_is = a.retained_is;
           in_time = a.in_time;
+          by_now = a.by_now;
         }
       where
         later : Trail
@@ -134,9 +136,9 @@ module _ (c : Parameters) (past : Trail) (x : Parts) (a : Agrees c past x) where
     reply-hit l r = rw (l, r) refl
 
     pub agrees-hit : (h : Blocks) → nat_lt who c.clients ≡ true → nat_lt p c.pages ≡ true → resident past p ≡ true
-        → SameSettings x.blocks h → HasStampsOf h p (hit (clock past) ∷ references c past p) → ((q : ℕ) → q ≢ p → SameAt x.blocks h q) → is_held h p ≡ true
+        → SameSettings x.blocks h → HasStampsOf h p (hit (clock past) ∷ references c past p) → ((q : ℕ) → q ≢ p → SameAt x.blocks h q) → is_held h p ≡ true → latest_of h p ≤ clock past
         → Agrees c (by who (Fix p) (Hit x.given) ∷ past) (record x { given = x.given + 1; out = grant who p x.given ∷ x.out; frames = changed_at p pinned x.frames; blocks = h })
-    agrees-hit h client page here settings stamps others kept = record {
+    agrees-hit h client page here settings stamps others kept newest = record {
       legal = record { here = record { client = client; allowed = page; reply = inl (ap Hit a.observed.passes_is ∙ sym (reply-hit (false_from_ne_true (loading past p) (λ l. true≢false (sym here ∙ (places c past a.legal).away p l))) here)) }; before = a.legal };
       observed = record {
         clock_is = a.observed.clock_is;
@@ -154,6 +156,7 @@ module _ (c : Parameters) (past : Trail) (x : Parts) (a : Agrees c past x) where
       correlated_is = settings.correlated ∙ a.correlated_is;
       retained_is = settings.retained ∙ a.retained_is;
       in_time = a.in_time;
+      by_now = λ q. now q (p == q) refl;
     }
       where
         one : (q : ℕ) (b : Bool) → (q == p) ≡ b → frame_of (by who (Fix p) (Hit x.given) ∷ past) q (x.places q) ≡ (if b then pinned (frame_of past q (x.places q)) else frame_of past q (x.places q))
@@ -171,6 +174,10 @@ module _ (c : Parameters) (past : Trail) (x : Parts) (a : Agrees c past x) where
         stamped : (q : ℕ) (b : Bool) → (p == q) ≡ b → HasStampsOf h q (if b then hit (clock past) ∷ references c past q else references c past q)
         stamped q true e = subst (λ y. HasStampsOf h y (hit (clock past) ∷ references c past y)) (eqb-true p q e) stamps
         stamped q false e = stamps-kept x.blocks h q (references c past q) settings (told-alike x.blocks h q (others q (λ i. other p q e (sym i)))) (a.observed.stamps_are q)
+
+        now : (q : ℕ) (b : Bool) → (p == q) ≡ b → latest_of h q ≤ clock past
+        now q true e = subst (λ y. latest_of h y ≤ clock past) (eqb-true p q e) newest
+        now q false e = omega (arith, (others q (λ i. other p q e (sym i))).no_later, a.by_now q)
 
         holds : (q : ℕ) (b : Bool) → (p == q) ≡ b → is_held h q ≡ (resident past q || loading past q)
         holds q true e = subst (λ y. is_held h y ≡ (resident past y || loading past y)) (eqb-true p q e) (kept ∙ sym (ap (λ b. b || loading past p) here))

@@ -84,6 +84,7 @@ module _ (c : Parameters) (past : Trail) (x : Parts) (a : Agrees c past x) where
     correlated_is = a.correlated_is;
     retained_is = a.retained_is;
     in_time = a.in_time;
+    by_now = a.by_now;
   }
 
 -- each frame tells where the block of its page is

@@ -3,7 +3,7 @@ use Rattle.std.proofs.Common.{inl, ◌≡◌, ℕ, ◌-◌, ◌≤◌, nat_lt, B
 use Rattle.std.proofs.lemmas.Bool.{lt-ltb}
 use Rattle.std.proofs.lemmas.Bool.Decides.{nat_tests}
 use Rattle.bp_references.specs.Burst.{Reference}
-use Rattle.bp_replacer.specs.Histories.{Blocks, is_held, HasStampsOf, SameAt, SameSettings}
+use Rattle.bp_replacer.specs.Histories.{Blocks, is_held, latest_of, HasStampsOf, SameAt, SameSettings}
 use Rattle.bp_trail.specs.declared.entries.Call.TheVariants.{Purge}
 use Rattle.bp_trail.specs.declared.entries.Reply.TheVariants.{Forgot}
 use Rattle.bp_trail.specs.Parameters.{Parameters}
@@ -57,9 +57,9 @@ module _ (c : Parameters) (past : Trail) (x : Parts) (a : Agrees c past x) where
       none (r ∷ older) w = let k = w refl in absurd (grind (arith, nat_tests))
 
   pub agrees-purge : (who n : ℕ) (h : Blocks) → nat_lt who c.clients ≡ true → n ≡ forgotten c past → SameSettings x.blocks h
-      → ((p : ℕ) → forgets x.blocks x.now p ≡ true → HasStampsOf h p []) → ((p : ℕ) → forgets x.blocks x.now p ≡ false → SameAt x.blocks h p) → ((p : ℕ) → is_held h p ≡ is_held x.blocks p)
+      → ((p : ℕ) → forgets x.blocks x.now p ≡ true → HasStampsOf h p []) → ((p : ℕ) → forgets x.blocks x.now p ≡ false → SameAt x.blocks h p) → ((p : ℕ) → is_held h p ≡ is_held x.blocks p) → ((p : ℕ) → latest_of h p ≤ latest_of x.blocks p)
       → Agrees c (by who Purge (Forgot n) ∷ past) (record x { blocks = h })
-  agrees-purge who n h client counted settings gone kept held = record {
+  agrees-purge who n h client counted settings gone kept held later = record {
     legal = record { here = record { client = client; allowed = refl; reply = inl (ap Forgot counted) }; before = a.legal };
     observed = record {
       clock_is = a.observed.clock_is;
@@ -77,6 +77,7 @@ module _ (c : Parameters) (past : Trail) (x : Parts) (a : Agrees c past x) where
     correlated_is = settings.correlated ∙ a.correlated_is;
     retained_is = settings.retained ∙ a.retained_is;
     in_time = a.in_time;
+    by_now = λ p. omega (arith, later p, a.by_now p);
   }
     where
       stamped : (p : ℕ) (b : Bool) → forgets_page c past p (references c past p) ≡ b → HasStampsOf h p (if b then [] else references c past p)

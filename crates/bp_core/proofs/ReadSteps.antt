@@ -1,27 +1,28 @@
 -- The begin and the end of a read keep what the core holds in agreement with the trail.
-use Rattle.std.proofs.Common.{inl, ◌≡◌, ◌≢◌, ℕ, suc, ◌+◌, nat_lt, Bool, true, false, not, cond, if◌then◌else◌, ◌||◌, ◌&&◌, ◌==◌, List, ◌∷◌, length, filter, Some, None, refl, sym, ◌∙◌, ap, subst, arith}
+use Rattle.std.proofs.Common.{◌≡◌, ◌≢◌, ℕ, suc, ◌+◌, nat_lt, Bool, true, false, not, cond, if◌then◌else◌, ◌||◌, ◌&&◌, ◌==◌, ◌≤◌, inl, inr, List, ◌∷◌, length, filter, Some, None, refl, sym, ◌∙◌, ap, subst, arith}
 use Rattle.std.specs.List.Sorted.{IsPermutation}
-use Rattle.std.proofs.lemmas.Bool.{and_from, and_parts, eqb-true, eq-eqb, false_from_ne_true, true≢false}
+use Rattle.std.proofs.lemmas.Bool.{and_from, and_parts, or_left, or_right, or_cases, eqb-true, eq-eqb, false_from_ne_true, true≢false}
 use Rattle.bp_references.specs.Burst.Reference.{fault}
-use Rattle.bp_replacer.specs.Histories.{Blocks, is_held, HasStampsOf, SameStampsAt, SameAt, SameSettings}
+use Rattle.bp_replacer.specs.Histories.{Blocks, is_held, latest_of, HasStampsOf, SameStampsAt, SameAt, SameSettings}
+use Rattle.bp_trail.specs.declared.entries.Entry.{Entry}
 use Rattle.bp_trail.specs.declared.entries.Call.TheVariants.{Fix, ReadEnd}
 use Rattle.bp_trail.specs.declared.entries.Reply.{Reply}
 use Rattle.bp_trail.specs.declared.entries.Reply.TheVariants.{Load, WriteFirst, NeedLog, Fixed, ReadFailed}
 use Rattle.bp_frames.specs.declared.frame.Frame.{Frame}
 use Rattle.bp_trail.specs.Parameters.{Parameters}
 use Rattle.bp_trail.specs.Lists.{some, count}
-use Rattle.bp_trail.specs.Event.{grant, begins_of, writes, lsn_written}
+use Rattle.bp_trail.specs.Event.{grant, begins_of, discards, writes, lsn_written}
 use Rattle.bp_trail.specs.Trail.{Trail}
 use Rattle.bp_trail.specs.Clock.{clock, durable}
 use Rattle.bp_trail.specs.Passes.{passes, tickets, passes_out, reads_out, is_of, pins}
 use Rattle.bp_trail.specs.Places.{residents, resident, loading, writing}
-use Rattle.bp_trail.specs.Saved.{unsaved, page_lsn, began_saving, first_lsn}
+use Rattle.bp_trail.specs.Saved.{unsaved, page_lsn, began_saving, settles, first_lsn}
 use Rattle.bp_trail.specs.Images.{held}
 use Rattle.bp_trail.specs.References.{references}
 use Rattle.bp_trail.specs.PageMap.{fix_reply}
 use Rattle.bp_trail.specs.Legal.{is_out}
 use Rattle.bp_frames.specs.Frames.{is_frame_of, loaded_with, without_page}
-use Rattle.bp_core.specs.Agreement.{Parts, Agrees, frame_of, rewritten, rewritten_lsn}
+use Rattle.bp_core.specs.Agreement.{Parts, Agrees, frame_of, parts_writes, rewritten, rewritten_lsn}
 use Rattle.bp_trail.proofs.Lists.{since-mono}
 use Rattle.bp_trail.proofs.Redo.{first-unsaved, least-some, lsn-some, none-of}
 use Rattle.bp_trail.proofs.Counting.{count-cons, none-count, count-agree_but, count-permutation, count-filter}
@@ -39,11 +40,15 @@ use Rattle.bp_trail.specs.PageMap.{has_free_frame, replace_reply}
 
 -- a page that is rewritten is unsaved
 rewritten-unsaved : (past : Trail) (p : ℕ) → rewritten past p ≡ true → unsaved past p ≡ true
-rewritten-unsaved past p m = since-mono (writes p) (λ e. began_saving past p e.reply) (λ e. begins_of p e.reply) past (λ e k. tells e.reply k) m
+rewritten-unsaved past p m = since-mono (writes p) (settles past p) (parts_writes p) past tells m
   where
-    tells : (r : Reply) → began_saving past p r ≡ true → begins_of p r ≡ true
-    tells (WriteFirst t q image) k = (and_parts (q == p) _ k).0
-    tells _ k = cc
+    began : (r : Reply) → began_saving past p r ≡ true → begins_of p r ≡ true
+    began (WriteFirst t q image) k = (and_parts (q == p) _ k).0
+    began _ k = cc
+
+    tells : (e : Entry) → settles past p e ≡ true → parts_writes p e ≡ true
+    tells e h = elim (or_cases (discards p e) (began_saving past p e.reply) h) as (λ _. parts_writes p e ≡ true)
+        [ inl i ↦ or_left (discards p e) (begins_of p e.reply) i | inr j ↦ or_right (discards p e) (begins_of p e.reply) (began e.reply j) ]
 
 module _ (c : Parameters) (past : Trail) (x : Parts) (a : Agrees c past x) (who p : ℕ) where
   -- ---- a page is asked of the device
@@ -74,6 +79,7 @@ module _ (c : Parameters) (past : Trail) (x : Parts) (a : Agrees c past x) (who 
       correlated_is = settings.correlated ∙ a.correlated_is;
       retained_is = settings.retained ∙ a.retained_is;
       in_time = a.in_time;
+      by_now = λ q. omega (arith, (stamps q).no_later, a.by_now q);
     }
       where
         holds : (q : ℕ) (b : Bool) → (p == q) ≡ b → is_held h q ≡ (resident past q || (b || loading past q))
@@ -102,6 +108,7 @@ module _ (c : Parameters) (past : Trail) (x : Parts) (a : Agrees c past x) (who 
       correlated_is = settings.correlated ∙ a.correlated_is;
       retained_is = settings.retained ∙ a.retained_is;
       in_time = a.in_time;
+      by_now = λ q. omega (arith, (stamps q).no_later, a.by_now q);
     }
       where
         replaces : replace_reply past (victim c past) ≡ Load (tickets past) (Some v)
@@ -158,16 +165,17 @@ module _ (c : Parameters) (past : Trail) (x : Parts) (a : Agrees c past x) (who 
       correlated_is = settings.correlated ∙ a.correlated_is;
       retained_is = settings.retained ∙ a.retained_is;
       in_time = a.in_time;
+      by_now = λ q. omega (arith, (stamps q).no_later, a.by_now q);
     }
       where
         holds : (q : ℕ) (b : Bool) → (p == q) ≡ b → is_held h q ≡ (resident past q || some (is_of q) (rest t (reads_out past)))
         holds q true e = subst (λ y. is_held h y ≡ (resident past y || some (is_of y) (rest t (reads_out past)))) (eqb-true p q e) (gone ∙ sym (ap (λ b. b || some (is_of p) (rest t (reads_out past))) absent ∙ idle-after))
         holds q false e = others q (λ i. other p q e (sym i)) ∙ a.observed.held_is q ∙ ap (λ b. resident past q || b) (sym (idle-other q e))
 
-    pub agrees-fixed : (block : ℕ) → x.places p ≡ Some block → (image : List ℕ) → length image ≡ c.size → (fs : List Frame) → IsPermutation (loaded_with p block image ∷ x.frames) fs → HasStampsOf h p (fault (clock past) ∷ references c past p) → ((q : ℕ) → q ≢ p → SameAt x.blocks h q) → is_held h p ≡ true
+    pub agrees-fixed : (block : ℕ) → x.places p ≡ Some block → (image : List ℕ) → length image ≡ c.size → (fs : List Frame) → IsPermutation (loaded_with p block image ∷ x.frames) fs → HasStampsOf h p (fault (clock past) ∷ references c past p) → ((q : ℕ) → q ≢ p → SameAt x.blocks h q) → is_held h p ≡ true → latest_of h p ≤ clock past
         → Agrees c (by who (ReadEnd t p (Some image)) (Fixed x.given) ∷ past)
         (record x { given = x.given + 1; out = grant who p x.given ∷ x.out; reads = filter (λ g. not (g.serial == t)) x.reads; frames = fs; blocks = h })
-    agrees-fixed block place image size fs moved stamps others kept = record {
+    agrees-fixed block place image size fs moved stamps others kept newest = record {
       legal = record { here = record { client = clients; allowed = and_from _ _ out (eq-eqb (length image) c.size size); reply = inl (ap Fixed a.observed.passes_is) }; before = a.legal };
       observed = record {
         clock_is = a.observed.clock_is;
@@ -185,6 +193,7 @@ module _ (c : Parameters) (past : Trail) (x : Parts) (a : Agrees c past x) (who 
       correlated_is = settings.correlated ∙ a.correlated_is;
       retained_is = settings.retained ∙ a.retained_is;
       in_time = a.in_time;
+      by_now = λ q. now q (p == q) refl;
     }
       where
         after : Trail
@@ -206,7 +215,7 @@ module _ (c : Parameters) (past : Trail) (x : Parts) (a : Agrees c past x) (who 
         first-now = none-of (first_lsn past p) (first-unsaved past p ∙ saved-now)
 
         since-now : rewritten_lsn past p ≡ None
-        since-now = none-of (rewritten_lsn past p) (least-some (writes p) (lsn_written p) (λ e. begins_of p e.reply) (lsn-some p) past ∙ settled-now)
+        since-now = none-of (rewritten_lsn past p) (least-some (writes p) (lsn_written p) (parts_writes p) (lsn-some p) past ∙ settled-now)
 
         idle-now : writing past p ≡ false
         idle-now = false_from_ne_true (writing past p) (λ m. true≢false (sym (stays c past a.legal p m) ∙ absent))
@@ -246,6 +255,10 @@ module _ (c : Parameters) (past : Trail) (x : Parts) (a : Agrees c past x) (who 
         stamped : (q : ℕ) (b : Bool) → (p == q) ≡ b → HasStampsOf h q (if b then fault (clock past) ∷ references c past q else references c past q)
         stamped q true e = subst (λ y. HasStampsOf h y (fault (clock past) ∷ references c past y)) (eqb-true p q e) stamps
         stamped q false e = stamps-kept x.blocks h q (references c past q) settings (told-alike x.blocks h q (others q (λ i. other p q e (sym i)))) (a.observed.stamps_are q)
+
+        now : (q : ℕ) (b : Bool) → (p == q) ≡ b → latest_of h q ≤ clock past
+        now q true e = subst (λ y. latest_of h y ≤ clock past) (eqb-true p q e) newest
+        now q false e = omega (arith, (others q (λ i. other p q e (sym i))).no_later, a.by_now q)
 
         holds : (q : ℕ) (b : Bool) → (p == q) ≡ b → is_held h q ≡ ((b || resident past q) || some (is_of q) (rest t (reads_out past)))
         holds q true e = subst (λ y. is_held h y ≡ true) (eqb-true p q e) kept

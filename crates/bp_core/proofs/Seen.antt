@@ -164,7 +164,7 @@ module _ (c : Parameters) (past : Trail) (x : Parts) (a : Agrees c past x) where
   pub now_is : IsNow x.blocks x.now
   now_is = record {
     positive = omega (arith, a.observed.clock_is);
-    after_all = λ p. omega (arith, a.observed.clock_is, (a.observed.stamps_are p).last, (references-timed c past p).past);
+    after_all = λ p. omega (arith, a.observed.clock_is, a.by_now p);
   }
 
   pub known_is : (p : ℕ) → resident past p ≡ true → 0 < last_of x.blocks p

@@ -13,7 +13,7 @@ use Rattle.bp_trail.specs.PageMap.{reply_of}
 use Rattle.bp_trail.specs.Legal.{allowed}
 use Rattle.bp_core.specs.Agreement.{Parts, Observed, Agrees}
 use Rattle.bp_core.specs.Outcomes.{IsQuiet}
-use Rattle.bp_core.specs.Outcomes.IsQuiet.{fix_busy, fix_none, fix_log, flush_busy, flush_absent, flush_clean, flush_log, page_read}
+use Rattle.bp_core.specs.Outcomes.IsQuiet.{fix_busy, fix_none, fix_log, flush_busy, flush_absent, flush_clean, flush_log, discard_busy, discard_pinned, page_read}
 use Rattle.bp_core.proofs.Changes.{clock-tick}
 
 abbrev pub by : ℕ → Call → Reply → Entry
@@ -39,6 +39,7 @@ module _ (c : Parameters) (past : Trail) (x : Parts) (a : Agrees c past x) where
     correlated_is = a.correlated_is;
     retained_is = a.retained_is;
     in_time = omega (arith, clock-tick past who n);
+    by_now = λ p. omega (arith, clock-tick past who n, a.by_now p);
   }
 
   pub agrees-mark : (who lsn : ℕ) → who < c.clients → Agrees c (by who (Mark lsn) Done ∷ past) (record x { mark = max lsn x.mark })
@@ -60,6 +61,7 @@ module _ (c : Parameters) (past : Trail) (x : Parts) (a : Agrees c past x) where
     correlated_is = a.correlated_is;
     retained_is = a.retained_is;
     in_time = a.in_time;
+    by_now = a.by_now;
   }
 
   -- an entry that changes nothing but the trail
@@ -70,7 +72,8 @@ module _ (c : Parameters) (past : Trail) (x : Parts) (a : Agrees c past x) where
     k_is = a.k_is;
     correlated_is = a.correlated_is;
     retained_is = a.retained_is;
-    in_time = time call reply quiet;
+    in_time = omega (arith, time call reply quiet, a.in_time);
+    by_now = λ p. omega (arith, time call reply quiet, a.by_now p);
   }
     where
       go : (call : Call) (reply : Reply) → IsQuiet call reply → Observed c (by who call reply ∷ past) x
@@ -81,14 +84,18 @@ module _ (c : Parameters) (past : Trail) (x : Parts) (a : Agrees c past x) where
       go _ _ (flush_absent p) = a.observed
       go _ _ (flush_clean p) = a.observed
       go _ _ (flush_log p lsn) = a.observed
+      go _ _ (discard_busy p) = a.observed
+      go _ _ (discard_pinned p) = a.observed
       go _ _ (page_read n p image) = a.observed
 
-      time : (call : Call) (reply : Reply) → IsQuiet call reply → clock (by who call reply ∷ past) ≤ 2 ^ 62
-      time _ _ (fix_busy p) = a.in_time
-      time _ _ (fix_none p) = a.in_time
-      time _ _ (fix_log p lsn) = a.in_time
-      time _ _ (flush_busy p) = a.in_time
-      time _ _ (flush_absent p) = a.in_time
-      time _ _ (flush_clean p) = a.in_time
-      time _ _ (flush_log p lsn) = a.in_time
-      time _ _ (page_read n p image) = a.in_time
+      time : (call : Call) (reply : Reply) → IsQuiet call reply → clock (by who call reply ∷ past) ≡ clock past
+      time _ _ (fix_busy p) = refl
+      time _ _ (fix_none p) = refl
+      time _ _ (fix_log p lsn) = refl
+      time _ _ (flush_busy p) = refl
+      time _ _ (flush_absent p) = refl
+      time _ _ (flush_clean p) = refl
+      time _ _ (flush_log p lsn) = refl
+      time _ _ (discard_busy p) = refl
+      time _ _ (discard_pinned p) = refl
+      time _ _ (page_read n p image) = refl

@@ -1,12 +1,12 @@
 -- The begin and the end of a write-out keep what the core holds in agreement with the trail.
 use Rattle.std.proofs.Common.{inl, ◌≡◌, ℕ, suc, ◌+◌, nat_lt, Bool, true, false, not, if◌then◌else◌, ◌||◌, ◌&&◌, ◌==◌, [], ◌∷◌, length, filter, None, refl, sym, ◌∙◌, ap, subst, arith}
-use Rattle.std.proofs.lemmas.Bool.{and_parts, eqb-true}
+use Rattle.std.proofs.lemmas.Bool.{and_parts, or_right, eqb-true}
 use Rattle.bp_trail.specs.declared.entries.Call.{Call}
 use Rattle.bp_trail.specs.declared.entries.Call.TheVariants.{Fix, WriteEnd, Flush}
 use Rattle.bp_trail.specs.declared.entries.Reply.TheVariants.{WriteFirst, Cleaned, StillDirty, WriteFailed}
 use Rattle.bp_trail.specs.Parameters.{Parameters}
 use Rattle.bp_trail.specs.Lists.{some, since}
-use Rattle.bp_trail.specs.Event.{grant, begins_of, writes}
+use Rattle.bp_trail.specs.Event.{grant, begins_of, discards, writes}
 use Rattle.bp_trail.specs.Trail.{Trail}
 use Rattle.bp_trail.specs.Passes.{tickets, writes_out, pins, is_of}
 use Rattle.bp_trail.specs.Places.{writing}
@@ -15,7 +15,7 @@ use Rattle.bp_trail.specs.Images.{held}
 use Rattle.bp_trail.specs.PageMap.{reply_of}
 use Rattle.bp_trail.specs.Legal.{is_out, allowed, Legal}
 use Rattle.bp_frames.specs.Frames.{saving, saved, not_saved, changed_at}
-use Rattle.bp_core.specs.Agreement.{Parts, Agrees, frame_of, rewritten, rewritten_lsn}
+use Rattle.bp_core.specs.Agreement.{Parts, Agrees, frame_of, parts_writes, rewritten, rewritten_lsn}
 use Rattle.bp_trail.proofs.Serials.{numbered, rest}
 use Rattle.bp_trail.proofs.Residents.{reads-rest}
 use Rattle.bp_trail.proofs.Ranges.{owned, owner}
@@ -43,13 +43,14 @@ written-is : (c : Parameters) (t p : ℕ) (past : Trail) → Legal c past → in
 written-is c t p [] l f = cc
 written-is c t p (e ∷ past) l f = go (begins t e.reply) refl f (written-is c t p past l.before)
   where
-    go : (b : Bool) → begins t e.reply ≡ b → (if b then begins_of p e.reply && not (some (λ d. begins t d.reply) past) else not (begins_of p e.reply) && in_flight t p past) ≡ true
+    go : (b : Bool) → begins t e.reply ≡ b → (if b then begins_of p e.reply && not (some (λ d. begins t d.reply) past) else not (begins_of p e.reply) && (not (discards p e) && in_flight t p past)) ≡ true
         → (in_flight t p past ≡ true → written_since past t p ≡ rewritten past p)
-        → some (writes p) (if b then [] else e ∷ after_last (λ e. begins t e.reply) past) ≡ (writes p e || (not (begins_of p e.reply) && rewritten past p))
-    go true i k ih = let j = (and_parts (begins_of p e.reply) _ k).0 in rw (begin-writes c past e.client e.call e.reply (event-of c past e l.here) t p i, j) refl
+        → some (writes p) (if b then [] else e ∷ after_last (λ e. begins t e.reply) past) ≡ (writes p e || (not (parts_writes p e) && rewritten past p))
+    go true i k ih = let j = (and_parts (begins_of p e.reply) _ k).0 in rw (begin-writes c past e.client e.call e.reply (event-of c past e l.here) t p i, or_right (discards p e) (begins_of p e.reply) j) refl
     go false i k ih =
         let j = and_parts (not (begins_of p e.reply)) _ k in
-        rw (not-true (begins_of p e.reply) j.0) (ap (λ b. writes p e || b) (ih j.1))
+        let d = and_parts (not (discards p e)) _ j.1 in
+        rw (not-true (discards p e) d.0, not-true (begins_of p e.reply) j.0) (ap (λ b. writes p e || b) (ih d.1))
 
 module _ (c : Parameters) (past : Trail) (x : Parts) (a : Agrees c past x) (who : ℕ) where
   pub agrees-begin-fix : (p v : ℕ) → nat_lt who c.clients ≡ true → allowed c past who (Fix p) ≡ true → WriteFirst (tickets past) v (held past v) ≡ reply_of c past (Fix p)
@@ -72,6 +73,7 @@ module _ (c : Parameters) (past : Trail) (x : Parts) (a : Agrees c past x) (who 
     correlated_is = a.correlated_is;
     retained_is = a.retained_is;
     in_time = a.in_time;
+    by_now = a.by_now;
   }
     where
       one-more : tickets (by who (Fix p) (WriteFirst x.begun v (held past v)) ∷ past) ≡ suc (tickets past)
@@ -122,6 +124,7 @@ module _ (c : Parameters) (past : Trail) (x : Parts) (a : Agrees c past x) (who 
     correlated_is = a.correlated_is;
     retained_is = a.retained_is;
     in_time = a.in_time;
+    by_now = a.by_now;
   }
     where
       one-more : tickets (by who (Flush p) (WriteFirst x.begun v (held past v)) ∷ past) ≡ suc (tickets past)
@@ -191,6 +194,7 @@ module _ (c : Parameters) (past : Trail) (x : Parts) (a : Agrees c past x) (who 
       correlated_is = a.correlated_is;
       retained_is = a.retained_is;
       in_time = a.in_time;
+      by_now = a.by_now;
     }
       where
         one : (q : ℕ) (b : Bool) → (q == p) ≡ b → frame_of (by who (WriteEnd t p false) WriteFailed ∷ past) q (x.places q) ≡ (if b then not_saved (frame_of past q (x.places q)) else frame_of past q (x.places q))
@@ -216,6 +220,7 @@ module _ (c : Parameters) (past : Trail) (x : Parts) (a : Agrees c past x) (who 
       correlated_is = a.correlated_is;
       retained_is = a.retained_is;
       in_time = a.in_time;
+      by_now = a.by_now;
     }
       where
         own : unsaved (by who (WriteEnd t p true) Cleaned ∷ past) p ≡ rewritten past p
@@ -255,6 +260,7 @@ module _ (c : Parameters) (past : Trail) (x : Parts) (a : Agrees c past x) (who 
       correlated_is = a.correlated_is;
       retained_is = a.retained_is;
       in_time = a.in_time;
+      by_now = a.by_now;
     }
       where
         own : unsaved (by who (WriteEnd t p true) StillDirty ∷ past) p ≡ rewritten past p

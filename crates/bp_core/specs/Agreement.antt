@@ -4,16 +4,17 @@ use Rattle.std.specs.Prelude.{true, false, List, [], length, replicate, All, Con
 use Rattle.std.specs.Prelude.{None}
 use Rattle.std.specs.Prelude.{IsSome}
 use Rattle.std.specs.Prelude.{if◌then◌else◌}
-use Rattle.bp_replacer.specs.Histories.{Blocks, HasStampsOf, is_held, place_of, stamp_of, last_of}
+use Rattle.bp_replacer.specs.Histories.{Blocks, HasStampsOf, is_held, place_of, stamp_of, last_of, latest_of}
 use Rattle.bp_references.specs.Candidates.{Entered, entry_of, NoPageTwice}
 use Rattle.bp_core.specs.declared.config.Config.{Config}
 use Rattle.bp_core.specs.declared.config.CoreConfig.{CoreConfig}
 use Rattle.bp_frames.specs.declared.frame.Frame.{Frame}
 use Rattle.bp_frames.specs.Frames.{is_unused}
 use Rattle.bp_core.specs.declared.state.State.{State}
+use Rattle.bp_trail.specs.declared.entries.Entry.{Entry}
 use Rattle.bp_trail.specs.Parameters.{Parameters}
 use Rattle.bp_trail.specs.Lists.{count, since, least_since}
-use Rattle.bp_trail.specs.Event.{Grant, writes, begins_of, lsn_written}
+use Rattle.bp_trail.specs.Event.{Grant, writes, discards, begins_of, lsn_written}
 use Rattle.bp_trail.specs.Trail.{Trail}
 use Rattle.bp_trail.specs.Clock.{clock, durable}
 use Rattle.bp_trail.specs.Passes.{passes, tickets, passes_out, reads_out, writes_out, pins}
@@ -51,13 +52,17 @@ parameters_with config clients = record {
   room = config.room;
 }
 
--- a write of p stands after the newest begin of a write-out of p
+-- p is discarded, or a write-out of p begins
+abbrev pub parts_writes : ℕ → Entry → Bool
+parts_writes p e = discards p e || begins_of p e.reply
+
+-- a write of p stands after the newest of these
 abbrev pub rewritten : Trail → ℕ → Bool
-rewritten past p = since (writes p) (λ e. begins_of p e.reply) past
+rewritten past p = since (writes p) (parts_writes p) past
 
 -- the least LSN of such writes
 abbrev pub rewritten_lsn : Trail → ℕ → Option ℕ
-rewritten_lsn past p = least_since (lsn_written p) (λ e. begins_of p e.reply) past
+rewritten_lsn past p = least_since (lsn_written p) (parts_writes p) past
 
 -- what the frame of a page holds, whose references have this block
 abbrev pub frame_of : Trail → ℕ → Option ℕ → Frame
@@ -129,6 +134,8 @@ pub record Agrees (c : Parameters) (past : Trail) (x : Parts) : Type 0 where
   pub correlated_is : x.blocks.correlated ≡ c.correlated
   pub retained_is : x.blocks.retained ≡ c.retained
   pub in_time : clock past ≤ 2 ^ 62
+  -- no reference is later than that, those that were forgotten included
+  pub by_now : (p : ℕ) → latest_of x.blocks p ≤ clock past
 
 -- the room that later calls rely on: the trail has it for as many entries as the parameters say,
 -- and counts those that are kept
@@ -239,3 +246,4 @@ pub record IsFirst (c : Parameters) (x : State) : Type 0 where
   pub retained : x.histories.retained ≡ c.retained
   pub held : (page : ℕ) → is_held x.histories page ≡ false
   pub stamps : (page : ℕ) → HasStampsOf x.histories page []
+  pub latest : (page : ℕ) → latest_of x.histories page ≡ 0

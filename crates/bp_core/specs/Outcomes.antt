@@ -20,12 +20,12 @@ use Rattle.bp_core.specs.CoreView.{CoreView, opening, EachPast, with_entry, HasR
 use Rattle.bp_core.specs.CoreView.{LacksRoomFor}
 use Rattle.bp_trail.specs.declared.entries.Call.{Call}
 use Rattle.bp_trail.specs.declared.entries.Call.TheVariants.{Tick, Fix, ReadEnd, WriteEnd, Read}
-use Rattle.bp_trail.specs.declared.entries.Call.TheVariants.{Write, Unfix, Flush, Purge}
+use Rattle.bp_trail.specs.declared.entries.Call.TheVariants.{Write, Unfix, Flush, Discard, Purge}
 use Rattle.bp_trail.specs.declared.entries.Reply.{Reply}
 use Rattle.bp_trail.specs.declared.entries.Reply.TheVariants.{Done, Hit, Load, WriteFirst, NoVictim}
 use Rattle.bp_trail.specs.declared.entries.Reply.TheVariants.{NeedLog, Busy, Fixed}
 use Rattle.bp_trail.specs.declared.entries.Reply.TheVariants.{WriteFailed, Content}
-use Rattle.bp_trail.specs.declared.entries.Reply.TheVariants.{Clean, Absent, Forgot}
+use Rattle.bp_trail.specs.declared.entries.Reply.TheVariants.{Clean, Absent, Discarded, Pinned, Forgot}
 use Rattle.bp_core.specs.declared.passes.Pass.{Pass}
 use Rattle.bp_core.specs.declared.passes.ReadTicket.{ReadTicket}
 use Rattle.bp_core.specs.declared.passes.WriteTicket.{WriteTicket}
@@ -34,6 +34,8 @@ use Rattle.bp_core.specs.declared.passes.Fix.TheVariants as fixing
 use Rattle.bp_core.specs.declared.passes.Flush.{Flush as Flushing}
 use Rattle.bp_core.specs.declared.passes.Flush.TheVariants as flushing
 use Rattle.bp_trail.specs.declared.ends.Ended.{Ended}
+use Rattle.bp_trail.specs.declared.ends.Discarded.{Discarded as Discarding}
+use Rattle.bp_trail.specs.declared.ends.Discarded.TheVariants as discarding
 use Rattle.bp_core.specs.declared.passes.EndRefusal.{EndRefusal}
 use Rattle.bp_core.specs.declared.passes.EndRefusal.TheVariants as end_refusal
 
@@ -104,6 +106,8 @@ pub data IsQuiet : Call → Reply → Type 0 where
   flush_absent : (p : ℕ) → IsQuiet (Flush p) Absent
   flush_clean : (p : ℕ) → IsQuiet (Flush p) Clean
   flush_log : (p lsn : ℕ) → IsQuiet (Flush p) (NeedLog lsn)
+  discard_busy : (p : ℕ) → IsQuiet (Discard p) Busy
+  discard_pinned : (p : ℕ) → IsQuiet (Discard p) Pinned
   page_read : (n p : ℕ) (image : List ℕ) → IsQuiet (Read n p) (Content image)
 
 -- the calls by which a write-out begins
@@ -208,6 +212,18 @@ FlushOutcome old client page (Err refusal.Busy) new =
 FlushOutcome old client page (Err refusal.TrailFull) new = LacksRoomFor 2 old × (new ≡ old)
 FlushOutcome old client page (Err refusal.OutOfMemory) new = HasRoomFor 2 old × (new ≡ old)
 FlushOutcome old client page (Err _) new = ⊥
+
+abbrev pub DiscardOutcome : CoreView → ℕ → ℕ → Result Discarding Refusal → CoreView → Type 0
+DiscardOutcome old client page (Ok discarding.Left) new =
+    HasRoomFor 1 old × Adds old client (Discard page) Discarded new
+DiscardOutcome old client page (Ok discarding.Absent) new =
+    HasRoomFor 1 old × Adds old client (Discard page) Absent new
+DiscardOutcome old client page (Err refusal.Pinned) new =
+    HasRoomFor 1 old × Adds old client (Discard page) Pinned new
+DiscardOutcome old client page (Err refusal.Busy) new =
+    HasRoomFor 1 old × Adds old client (Discard page) Busy new
+DiscardOutcome old client page (Err refusal.TrailFull) new = LacksRoomFor 1 old × (new ≡ old)
+DiscardOutcome old client page (Err _) new = ⊥
 
 abbrev pub ReadEndOutcome : CoreView → ReadTicket → Result (List ℕ) PortFault
     → Result Pass (EndRefusal ReadTicket (Result (List ℕ) PortFault)) → CoreView → Type 0

@@ -12,7 +12,8 @@
 //!    mark, the counts of passes and tickets, those that are out, and the stamps of each page are those that the
 //!    entries come to. Each resident page has one frame, and no other page has any. The frame tells the page's passes,
 //!    whether it is unsaved, written since its write-out began or being written out, its page LSN and its bytes, as
-//!    the entries do. The histories hold the pages that are resident or being read. The clock is 2^62 at most.
+//!    the entries do. The histories hold the pages that are resident or being read. The clock is 2^62 at most, and no
+//!    reference is later than it, those that were forgotten included.
 //! 2. The candidates for replacement are the resident pages that nobody uses: no pass of the page is out, and no
 //!    write-out of it is under way. Each stands there once, with its K-th stamp and the time of its newest reference
 //!    (`candidates`).
@@ -37,7 +38,7 @@ pub mod stats;
 pub use bp_keeper::{GhostTrail as Before, Keeper, RecordingKeeper, SilentKeeper};
 pub use bp_replacer::Settings;
 pub use bp_replacer::settings::{MAX_PERIOD, MAX_STAMPS};
-pub use bp_trail::{Call, Ended, Entry, Flushed, NotFlushed, Refused, Reply, Row, Step};
+pub use bp_trail::{Call, Discarded, Ended, Entry, Flushed, NotFlushed, Refused, Reply, Row, Step};
 pub use config::Config;
 pub use passes::{EndRefusal, Fix, Flush, Pass, PassNote, ReadTicket, WriteTicket};
 pub use pool::PoolCore;

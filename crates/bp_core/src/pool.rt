@@ -5,6 +5,7 @@ ghost use Rattle.bp_core.specs.Outcomes.{NewOutcome};
 mod access;
 mod checkpoint;
 mod cutting;
+mod discarding;
 mod fixing;
 mod loading;
 mod lookups;

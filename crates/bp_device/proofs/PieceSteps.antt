@@ -9,22 +9,26 @@ use Rattle.bp_core.specs.declared.passes.Pass.{Pass}
 use Rattle.bp_trail.specs.declared.scripts.Step.{Step}
 use Rattle.bp_trail.specs.declared.scripts.Step.TheVariants as step
 use Rattle.bp_trail.specs.declared.entries.Call.{Call}
-use Rattle.bp_trail.specs.declared.entries.Call.TheVariants.{Tick, Mark, Read, Write, Unfix, Purge}
+use Rattle.bp_trail.specs.declared.entries.Call.TheVariants.{Tick, Mark, Read, Write, Unfix, Discard, Purge}
 use Rattle.bp_trail.specs.declared.entries.Reply.{Reply}
-use Rattle.bp_trail.specs.declared.entries.Reply.TheVariants.{Done, Content, Forgot}
+use Rattle.bp_trail.specs.declared.entries.Reply.TheVariants.{Done, Content, Forgot, Discarded as Dropped, Absent, Busy, Pinned}
 use Rattle.bp_trail.specs.Lists.{some, without, and_given}
 use Rattle.bp_trail.specs.Event.{Grant, grant, same_grant, pass_back}
 use Rattle.bp_trail.specs.Trail.{Trail}
 use Rattle.bp_trail.specs.Passes.{passes_out, pass_of}
 use Rattle.bp_trail.specs.Legal.{is_out}
 use Rattle.bp_core.specs.CoreView.{CoreView, with_entry}
-use Rattle.bp_core.specs.Outcomes.{ReadOutcome, WriteOutcome, TickOutcome, StepOutcome, PurgeOutcome, KnowsPass}
+use Rattle.bp_core.specs.Outcomes.{ReadOutcome, WriteOutcome, DiscardOutcome, TickOutcome, StepOutcome, PurgeOutcome, KnowsPass}
 use Rattle.bp_trail.specs.Pieces.{Outcome, by, outcome_of}
 use Rattle.bp_trail.specs.Pieces.Manner.{driver}
 use Rattle.bp_trail.specs.Pieces.Outcome.{accepted, refused}
+use Rattle.bp_trail.specs.Pieces.DiscardGoesOn.{begins}
+use Rattle.bp_trail.specs.Pieces.DiscardPiece.{discarded, absent, pinned, busy, no_room}
 use Rattle.bp_trail.specs.Script.{is_pass_of, latest_pass, WithPass, RowPiece}
 use Rattle.bp_trail.proofs.Counting.{filter-reverse}
 use Rattle.bp_trail.specs.declared.ends.Flushed.{Flushed}
+use Rattle.bp_trail.specs.declared.ends.Discarded.{Discarded}
+use Rattle.bp_trail.specs.declared.ends.Discarded.TheVariants as how
 use Rattle.bp_device.specs.Drivers.{DrivesFix, DrivesFlush}
 use Rattle.bp_device.specs.Rows.{AreHeld, EndsIn, DrivesRow}
 
@@ -223,6 +227,16 @@ flush-drives old new held client page f h = record { piece = h.piece; is = h.is;
 
 pub flush_refused-drives : (old new : CoreView) (held : List Grant) (client page : ℕ) (r : Refusal) → DrivesFlush old client page (Err r) new → DrivesRow old client (step.Flush page) (outcome_of {A = Unit {0}} (Err r)) held held new
 flush_refused-drives old new held client page r h = record { piece = h.piece; is = h.is; of_row = λ said are. h.of_row; holds = λ said are. are ∙ ap reverse (sym (h.gives said)) }
+
+pub discard-drives : (old new : CoreView) (held : List Grant) (client page : ℕ) (answer : Discarded) → DiscardOutcome old client page (Ok answer) new → DrivesRow old client (step.Discard page) accepted held held new
+discard-drives old new held client page how.Left h = one-drives old new held client (step.Discard page) (Discard page) Dropped h.1.is (λ said. refl) (λ said are. discarded begins)
+discard-drives old new held client page how.Absent h = one-drives old new held client (step.Discard page) (Discard page) Absent h.1.is (λ said. refl) (λ said are. absent begins)
+
+pub discard_refused-drives : (old new : CoreView) (held : List Grant) (client page : ℕ) (r : Refusal) → DiscardOutcome old client page (Err r) new → DrivesRow old client (step.Discard page) (outcome_of {A = Unit {0}} (Err r)) held held new
+discard_refused-drives old new held client page refusal.Pinned h = record { piece = by client (Discard page) Pinned ∷ []; is = h.1.is; of_row = λ said are. pinned begins; holds = λ said are. are }
+discard_refused-drives old new held client page refusal.Busy h = record { piece = by client (Discard page) Busy ∷ []; is = h.1.is; of_row = λ said are. busy refl begins; holds = λ said are. are }
+discard_refused-drives old new held client page refusal.TrailFull h = none-drives old new held client (step.Discard page) (refused 20) h.1 (λ said are. no_room begins)
+discard_refused-drives old new held client page _ h = absurd h
 
 pub tick-drives : (old new : CoreView) (held : List Grant) (client n : ℕ) (result : Result (Unit {0}) Refusal) → TickOutcome old client n result new → DrivesRow old client (step.Tick n) (outcome_of result) held held new
 tick-drives old new held client n (Ok done) h = one-drives old new held client (step.Tick n) (Tick n) Done h.2.is (λ said. refl) (λ said are. (Done, refl))

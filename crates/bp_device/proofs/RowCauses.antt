@@ -12,7 +12,7 @@ use Rattle.bp_trail.specs.Pieces.{outcome_of}
 use Rattle.bp_trail.specs.Script.{refused_row}
 use Rattle.bp_trail.proofs.Counting.{reverse-push}
 use Rattle.bp_core.specs.CoreView.{CoreView, LacksRoomFor}
-use Rattle.bp_core.specs.Outcomes.{TickOutcome, StepOutcome}
+use Rattle.bp_core.specs.Outcomes.{DiscardOutcome, TickOutcome, StepOutcome}
 use Rattle.bp_device.specs.Drivers.{IsCaused}
 use Rattle.bp_device.specs.Rows.{DrivesRow, GaveBack, RowCaused, IsLate, CausedRows, DrivesRowsCaused, ScriptCaused}
 use Rattle.bp_device.specs.Rows.CausedRows.{none, accepted, refused}
@@ -29,6 +29,12 @@ flush-row-caused core page refusal.TrailFull h = h
 flush-row-caused core page refusal.OutOfMemory h = h
 flush-row-caused core page refusal.ClockFull h = tt
 flush-row-caused core page _ h = tt
+
+pub discard-row-caused : (old new : CoreView) (client page : ℕ) (why : Refusal) → DiscardOutcome old client page (Err why) new → RowCaused (step.Discard page) why new
+discard-row-caused old new client page refusal.Pinned h = tt
+discard-row-caused old new client page refusal.Busy h = tt
+discard-row-caused old new client page refusal.TrailFull h = subst (LacksRoomFor 1) (sym h.1) h.0
+discard-row-caused old new client page _ h = absurd h
 
 pub tick-row-caused : (old new : CoreView) (client n : ℕ) (result : Result (Unit {0}) Refusal) → TickOutcome old client n result new → IfErr result (λ why. RowCaused (step.Tick n) why new)
 tick-row-caused old new client n (Ok done) h = tt

@@ -7,7 +7,9 @@ use Rattle.bp_trail.specs.declared.entries.Reply.{Reply}
 use Rattle.bp_trail.specs.declared.scripts.Step.{Step}
 use Rattle.bp_trail.specs.declared.scripts.Step.TheVariants as step
 use Rattle.bp_trail.specs.Event.{Grant}
-use Rattle.bp_trail.specs.Pieces.{Outcome, OneCall}
+use Rattle.bp_trail.specs.Pieces.{Outcome, OneCall, DiscardGoesOn, DiscardPiece}
+use Rattle.bp_trail.specs.Pieces.DiscardGoesOn.{begins, waited}
+use Rattle.bp_trail.specs.Pieces.DiscardPiece.{discarded, absent, pinned, busy, no_room, no_memory}
 use Rattle.bp_trail.specs.Pieces.Manner.{driver}
 use Rattle.bp_trail.specs.Pieces.Outcome.{accepted, refused}
 use Rattle.bp_trail.specs.Script.{latest_pass, WithPass, RowPiece, GivesBack, unfix_of}
@@ -47,6 +49,18 @@ module _ {A : Type 0} (reads : Reads A) (writes : Writes A) where
   with-pass-work past port numbers client call piece outcome None none h = subst (λ es. WorksThrough reads writes past es port port) (sym h.0) refl
   with-pass-work past port numbers client call piece outcome (Some g) none h = one-call-work past port numbers client (call g.serial) piece outcome (none g.serial) h
 
+  waits-work : (past : Trail) (port : A) (client page : ℕ) (older : Trail) → DiscardGoesOn driver client page older → WorksThrough reads writes past older port port
+  waits-work past port client page _ begins = refl
+  waits-work past port client page _ (waited own before) = (port, waits-work past port client page _ before, refl)
+
+  discard-work : (past : Trail) (port : A) (client page : ℕ) (piece : Trail) (outcome : Outcome) → DiscardPiece driver client page piece outcome → WorksThrough reads writes past piece port port
+  discard-work past port client page _ _ (discarded before) = (port, waits-work past port client page _ before, refl)
+  discard-work past port client page _ _ (absent before) = (port, waits-work past port client page _ before, refl)
+  discard-work past port client page _ _ (pinned before) = (port, waits-work past port client page _ before, refl)
+  discard-work past port client page _ _ (busy driven before) = (port, waits-work past port client page _ before, refl)
+  discard-work past port client page _ _ (no_room before) = waits-work past port client page _ before
+  discard-work past port client page _ _ (no_memory before) = waits-work past port client page _ before
+
   piece-work : (past said piece : Trail) (port : A) (client : ℕ) (step : Step) (outcome : Outcome) → is_quiet step ≡ true → RowPiece driver said client step piece outcome → WorksThrough reads writes past piece port port
   piece-work past said piece port client (step.Fix page) outcome quiet h = absurd (let no : false ≡ true = quiet in cc)
   piece-work past said piece port client (step.Flush page) outcome quiet h = absurd (let no : false ≡ true = quiet in cc)
@@ -54,6 +68,7 @@ module _ {A : Type 0} (reads : Reads A) (writes : Writes A) where
   piece-work past said piece port client (step.Read page) outcome quiet h = with-pass-work past port (20 ∷ 22 ∷ []) client (λ n. Read n page) piece outcome (latest_pass said client page) (λ n reply. refl) h
   piece-work past said piece port client (step.Write page offset bytes lsn) outcome quiet h =
       with-pass-work past port (20 ∷ 22 ∷ []) client (λ n. Write n page offset bytes lsn) piece outcome (latest_pass said client page) (λ n reply. refl) h
+  piece-work past said piece port client (step.Discard page) outcome quiet h = discard-work past port client page piece outcome h
   piece-work past said piece port client (step.Tick n) outcome quiet h = one-call-work past port (20 ∷ 21 ∷ 22 ∷ []) client (Tick n) piece outcome (λ reply. refl) h
   piece-work past said piece port client step.Purge outcome quiet h = one-call-work past port (20 ∷ 22 ∷ []) client Purge piece outcome (λ reply. refl) h
   piece-work past said piece port client (step.Log lsn) outcome quiet h = one-call-work past port (20 ∷ []) client (Mark lsn) piece outcome (λ reply. refl) h

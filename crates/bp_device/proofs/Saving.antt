@@ -10,12 +10,12 @@ use Rattle.bp_trail.specs.declared.entries.Reply.TheVariants.{WriteFirst, NeedLo
 use Rattle.bp_trail.specs.declared.ends.Flushed.{Flushed}
 use Rattle.bp_trail.specs.Parameters.{Parameters}
 use Rattle.bp_trail.specs.Lists.{since, every}
-use Rattle.bp_trail.specs.Event.{writes, ends_well}
+use Rattle.bp_trail.specs.Event.{writes, discards, ends_well}
 use Rattle.bp_trail.specs.Trail.{Trail}
 use Rattle.bp_trail.specs.Clock.{durable}
 use Rattle.bp_trail.specs.Passes.{tickets}
 use Rattle.bp_trail.specs.Places.{resident, loading, writing}
-use Rattle.bp_trail.specs.Saved.{began_saving, unsaved, page_lsn}
+use Rattle.bp_trail.specs.Saved.{began_saving, settles, unsaved, page_lsn}
 use Rattle.bp_trail.specs.Images.{held}
 use Rattle.std.specs.Prelude.{nat_lt}
 use Rattle.bp_trail.specs.PageMap.{flush_reply}
@@ -37,18 +37,25 @@ began-more : (past : Trail) (e : Entry) (p : ℕ) (r : Reply) → began_saving p
 began-more past e p (WriteFirst t q image) k = let a = and_parts (q == p) _ k in and_from (q == p) _ a.0 (or_right (ends_well t e.call) _ a.1)
 began-more past e p _ k = cc
 
+settled-more : (past : Trail) (e : Entry) (p : ℕ) (x : Entry) → settles past p x ≡ true → settles (e ∷ past) p x ≡ true
+settled-more past e p x h = go (discards p x) h
+  where
+    go : (d : Bool) → (d || began_saving past p x.reply) ≡ true → (d || began_saving (e ∷ past) p x.reply) ≡ true
+    go true i = refl
+    go false i = began-more past e p x.reply i
+
 -- one that writes to no page leaves a saved page saved
 saved-more : (past : Trail) (e : Entry) (p : ℕ) → writes p e ≡ false → unsaved past p ≡ false → unsaved (e ∷ past) p ≡ false
-saved-more past e p quiet saved = parts (writes p e) (began_saving (e ∷ past) p e.reply) (since (writes p) (λ d. began_saving (e ∷ past) p d.reply) past) quiet still
+saved-more past e p quiet saved = parts (writes p e) (settles (e ∷ past) p e) (since (writes p) (settles (e ∷ past) p) past) quiet still
   where
     parts : (w b s : Bool) → w ≡ false → s ≡ false → (w || (not b && s)) ≡ false
     parts true b s i j = cc
     parts false true s i j = refl
     parts false false s i j = j
 
-    still : since (writes p) (λ d. began_saving (e ∷ past) p d.reply) past ≡ false
+    still : since (writes p) (settles (e ∷ past) p) past ≡ false
     still = false_from_ne_true _ (λ m.
-        let u = since-mono (writes p) (λ d. began_saving past p d.reply) (λ d. began_saving (e ∷ past) p d.reply) past (λ x h. began-more past e p x.reply h) m in
+        let u = since-mono (writes p) (settles past p) (settles (e ∷ past) p) past (settled-more past e p) m in
         let w : unsaved past p ≡ true = u in
         cc)
 
@@ -106,6 +113,10 @@ says-absent false true false true true lsn t p image is = cc
 says-absent false true false true false lsn t p image is = cc
 says-absent false true false false d lsn t p image is = cc
 
+and-no : (b : Bool) → (b && false) ≡ false
+and-no true = refl
+and-no false = refl
+
 module _ (c : Parameters) (past : Trail) (client page : ℕ) where
   lawful-reply : (reply : Reply) → Legal c (by client (Flush page) reply ∷ past) → reply ≡ flush_reply past page
   lawful-reply reply legal = reply-is (Flush page) reply refl legal.here.reply
@@ -121,7 +132,7 @@ module _ (c : Parameters) (past : Trail) (client page : ℕ) where
   -- a write-out that began and ended well, with no entry between
   ended-is : (t : ℕ) (image : List ℕ) (reply : Reply) → began_saving (by client (WriteEnd t page true) reply ∷ by client (Flush page) (WriteFirst t page image) ∷ past) page reply ≡ false
       → unsaved (by client (WriteEnd t page true) reply ∷ by client (Flush page) (WriteFirst t page image) ∷ past) page ≡ false
-  ended-is t image reply none = rw (none, eq-eqb page page refl, eq-eqb t t refl) refl
+  ended-is t image reply none = rw (none, eq-eqb page page refl, eq-eqb t t refl) (and-no _)
 
 saved-by : (c : Parameters) (past piece : Trail) (client page : ℕ) (outcome : Outcome) → outcome ≡ accepted → Legal c (piece ++ past) → FlushPiece driver client page piece outcome → unsaved (piece ++ past) page ≡ false
 saved-by c past _ client page _ ok legal (clean {older} on) = saved-more (older ++ past) (by client (Flush page) Clean) page refl (clean-is c (older ++ past) client page legal)

@@ -8,7 +8,7 @@ ghost use Rattle.bp_trail.specs.Saved.{IsRedoFrom};
 ghost use Rattle.bp_core.specs.Agreement.{parameters_of};
 ghost use Rattle.bp_core.specs.CoreView.{EachPast};
 ghost use Rattle.bp_core.specs.Outcomes.{KnowsPass, LacksPass, ReadIntoOutcome, WriteOutcome};
-ghost use Rattle.bp_core.specs.Outcomes.{PurgeOutcome, StepOutcome, TickOutcome, UnfixOutcome};
+ghost use Rattle.bp_core.specs.Outcomes.{DiscardOutcome, PurgeOutcome, StepOutcome, TickOutcome, UnfixOutcome};
 ghost use Rattle.bp_core.specs.Work.{DoesWork};
 ghost use Rattle.bp_device.specs.Drivers.{IsCaused};
 ghost use Rattle.bp_core.specs.Work.{MadeBlank};
@@ -18,7 +18,7 @@ ghost use Rattle.bp_device.specs.Owned.{IsDeviceOf, Opens, ForPage, ForPart, Own
 use crate::drivers::drive_flush;
 use crate::flush_all::drive_flush_all;
 use crate::owner::{OWNER, fix_as_owner, fix_new_as_owner, look_by};
-use bp_core::{Flushed, Keeper, NotFlushed, Pass, PoolCore, Settings};
+use bp_core::{Discarded, Flushed, Keeper, NotFlushed, Pass, PoolCore, Settings};
 use bp_page::{Lsn, PageNo, PortFault, Refusal};
 use bp_ports::Port;
 use std::alloc::Global;
@@ -329,6 +329,19 @@ impl<K: Keeper, P: Port> OwnedPool<K, P> {
         ensures { EachPast self.now.core (λ past. result ≡ durable past) }
     {
         self.core.durable()
+    }
+
+    /// Has a page leave its frame without being written out. `OutOfPage` where the file has no such page, which changes
+    /// nothing, and else as `PoolCore::discard`.
+    pub fn discard(&mut self, page: PageNo) -> Result<Discarded, Refusal>
+        ensures outcome { ForPage self.old.core.parameters page self.old result self.new
+            (DiscardOutcome self.old.core 0 page result self.new.core) }
+        ensures port { KeepsPort self.old self.new }
+    {
+        if !self.has(page) {
+            return Err(Refusal::OutOfPage);
+        }
+        self.core.discard(OWNER, page)
     }
 
     /// Forgets old references, and returns the number of their pages. Refused as `PoolCore::purge` is.

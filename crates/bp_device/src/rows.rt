@@ -130,6 +130,22 @@ fn flush_row<K: Keeper, P: Port, R: Wait>(
     Ok(())
 }
 
+fn discard_row<K: Keeper>(
+    core: &mut PoolCore<K>,
+    held: &HeldList,
+    client: u8,
+    page: PageNo,
+) -> Result<(), Refusal>
+    requires client_in { client < core.old.parameters.clients }
+    requires page_in { page < core.old.parameters.pages }
+    ensures outcome { DrivesRow core.old client (Step.Discard page)
+        (outcome_of result) held.now.passes held.now.passes core.new }
+    ensures cause { IfErr result (λ why. RowCaused (Step.Discard page) why core.new) }
+{
+    core.discard(client, page)?;
+    Ok(())
+}
+
 fn tick_row<K: Keeper>(
     core: &mut PoolCore<K>,
     held: &HeldList,
@@ -200,6 +216,7 @@ pub(crate) fn drive_row<K: Keeper, P: Port, R: Wait>(
             lsn,
         } => write_row(core, held, client, *page, *offset, bytes, *lsn),
         Step::Flush(page) => flush_row(rt, core, port, held, client, *page),
+        Step::Discard(page) => discard_row(core, held, client, *page),
         Step::Tick(n) => tick_row(core, held, client, *n),
         Step::Purge => purge_row(core, held, client),
         Step::Log(lsn) => log_row(core, held, client, *lsn),

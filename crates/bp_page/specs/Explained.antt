@@ -22,6 +22,7 @@ explanations = (
     ∷ (22, codes "out of memory")
     ∷ (23, codes "the ring of passes to give back is full")
     ∷ (24, codes "the clients' lists and the trail do not agree")
+    ∷ (25, codes "the page is pinned")
     ∷ (
       40,
       codes

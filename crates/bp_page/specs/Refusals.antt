@@ -1,7 +1,7 @@
 -- The number of each refusal, and how far one wants the log.
 use Rattle.std.specs.Prelude.{ℕ, Option, Some, None}
 use Rattle.bp_page.specs.declared.refusals.Refusal.{Refusal}
-use Rattle.bp_page.specs.declared.refusals.Refusal.TheVariants.{BadGeometry, BadSettings, BadLength, NoVictim, NeedLog, Busy, UnknownPass, UnknownTicket, ReadFailed, WriteFailed, WrongPage, TrailFull, ClockFull, OutOfMemory, RingFull, Disagree, BadClient, OutOfPage}
+use Rattle.bp_page.specs.declared.refusals.Refusal.TheVariants.{BadGeometry, BadSettings, BadLength, NoVictim, NeedLog, Busy, UnknownPass, UnknownTicket, ReadFailed, WriteFailed, WrongPage, TrailFull, ClockFull, OutOfMemory, RingFull, Disagree, Pinned, BadClient, OutOfPage}
 
 abbrev pub number_of : Refusal → ℕ
 number_of BadGeometry = 1
@@ -20,6 +20,7 @@ number_of ClockFull = 21
 number_of OutOfMemory = 22
 number_of RingFull = 23
 number_of Disagree = 24
+number_of Pinned = 25
 number_of BadClient = 41
 number_of OutOfPage = 45
 

@@ -46,6 +46,8 @@ pub enum Refusal {
     /// In a run of threads a client held a pass that the pool did not know, or could not give one back. Or after it a
     /// client's list is not its part of the trail, or the log was marked ahead of client 0's rows.
     Disagree,
+    /// The page that is to be discarded is pinned, even if the pass is the caller's own.
+    Pinned,
     /// The core has no client with this number, or the pool's rings are for another number of clients.
     BadClient,
     /// The file has no such page, or the last byte would stand past the end of the page.
@@ -98,6 +100,7 @@ impl Refusal {
             Refusal::OutOfMemory => 22,
             Refusal::RingFull => 23,
             Refusal::Disagree => 24,
+            Refusal::Pinned => 25,
             Refusal::BadClient => 41,
             Refusal::OutOfPage => 45,
         }

@@ -1,5 +1,5 @@
 -- What histories show after one page's block is read, written, made or taken away.
-use Rattle.std.proofs.Common.{◌≡◌, ◌≢◌, ℕ, zero, suc, ◌-◌, ◌<◌, ◌≤◌, List, ◌∷◌, Option, Some, None, IsSome, unwrap_or, get_or, set, Bor, MutBor, refl, sym, ap, ◌∙◌, subst, inl, inr, arith}
+use Rattle.std.proofs.Common.{◌≡◌, ◌≢◌, ℕ, zero, suc, ◌-◌, ◌<◌, ◌≤◌, ◌==◌, if◌then◌else◌, List, [], ◌∷◌, Option, Some, None, IsSome, unwrap_or, get_or, set, Bor, MutBor, refl, sym, ap, ◌∙◌, subst, inl, inr, arith}
 use Rattle.std.proofs.lemmas.Bool.{cases_lt, lt-ltb, le-ltb}
 use Rattle.std.specs.Option.{option_copied, option_copied_mut}
 use Rattle.bp_replacer.specs.declared.histories.Block.{Block}
@@ -7,11 +7,12 @@ use Rattle.bp_replacer.specs.declared.histories.Histories.TheInside.{Inside}
 use Rattle.bp_replacer.specs.contracts.histories.Histories.{the_view}
 use Rattle.bp_references.specs.Burst.{Reference}
 use Rattle.bp_references.specs.Burst.Reference.{hit, fault}
-use Rattle.bp_references.specs.Stamp.{IsTimed}
+use Rattle.bp_references.specs.Stamp.{stamp, IsTimed}
+use Rattle.bp_references.proofs.StampLaws.{no_stamps}
 use Rattle.bp_references.specs.Shift.{IsShifted}
-use Rattle.bp_replacer.specs.Histories.{Blocks, no_block, block_of, stamp_of, last_of, place_of, HasStampsOf, SameAt, SameStampsAt, KeepsPlaces}
+use Rattle.bp_replacer.specs.Histories.{Blocks, no_block, block_of, time_of, stamp_of, last_of, place_of, HasStampsOf, SameAt, SameStampsAt, KeepsPlaces}
 use Rattle.bp_replacer.specs.Kept.{slot, IsSound, IsKept, IsQueued}
-use Rattle.bp_replacer.proofs.HistoryLaws.{has_after_fault, has_after_late_hit, has_after_soon_hit}
+use Rattle.bp_replacer.proofs.HistoryLaws.{has_after_fault, has_after_late_hit, has_after_soon_hit, stamped, stamped_time, unstamped_time}
 use Rattle.bp_replacer.proofs.PurgeLaws.{same_at}
 use Rattle.bp_replacer.proofs.QueueLaws.{queued_written}
 use Rattle.bp_replacer.proofs.KeptLaws.{number, Changes, others_stay, found, not_found, is_lent, is_there, was_sound, before, after, others_after, kept_after}
@@ -34,17 +35,20 @@ same_places a b same page was held = ap (λ ps. number ps page) same
 
 -- a block without a reference
 pub record IsBlank (k : ℕ) (b : Block) : Type 0 where
-  pub last : b.last ≡ 0
+  pub time : time_of b ≡ 0
   pub stamps : (n : ℕ) → n < k → get_or b.stamps n 0 ≡ 0
 
 pub no_block_blank : (k : ℕ) → IsBlank k no_block
-no_block_blank k = record { last = refl; stamps = λ n lt. refl }
+no_block_blank k = record { time = refl; stamps = λ n lt. refl }
+
+pub sound_unstamped : (k : ℕ) (b : Block) → IsSound k b → get_or b.stamps 0 0 ≡ 0 → IsBlank k b
+sound_unstamped k b sound none = record { time = unstamped_time b none; stamps = λ n lt. omega (arith, sound.bounded.below_newest n lt) }
 
 pub sound_blank : (k : ℕ) (b : Block) → IsSound k b → b.last ≡ 0 → IsBlank k b
-sound_blank k b sound none = record { last = none; stamps = λ n lt. omega (arith, sound.bounded.below_newest n lt, sound.bounded.below_last) }
+sound_blank k b sound none = sound_unstamped k b sound (omega (arith, sound.bounded.below_last))
 
-pub blank_alike : (old new : Blocks) (page : ℕ) → new.k ≡ old.k → IsBlank old.k (block_of old page) → IsBlank old.k (block_of new page) → SameStampsAt old new page
-blank_alike old new page k was is = record { last = is.last ∙ sym was.last; stamps = same }
+pub blank_alike : (old new : Blocks) (page : ℕ) → new.k ≡ old.k → (block_of new page).last ≤ (block_of old page).last → IsBlank old.k (block_of old page) → IsBlank old.k (block_of new page) → SameStampsAt old new page
+blank_alike old new page k less was is = record { last = is.time ∙ sym was.time; no_later = less; stamps = same }
   where
     same : (i : ℕ) → stamp_of new page i ≡ stamp_of old page i
     same zero = refl
@@ -102,7 +106,8 @@ module _ (inside : Inside) (value : Blocks) (view_is : the_view inside ≡ value
       -- the page's own stamps stay with the block's
       pub same_stamps : w.last ≡ lent.now.last → w.stamps ≡ lent.now.stamps → SameStampsAt value (the_view (with_block inside at w)) page
       same_stamps last stamps = subst (λ h. SameStampsAt h (the_view (with_block inside at w)) page) view_is record {
-        last = ap (λ (b : Block). b.last) is ∙ last ∙ sym (ap (λ (b : Block). b.last) was);
+        last = ap time_of is ∙ (λ i. if get_or (stamps i) 0 0 == 0 then 0 else last i) ∙ sym (ap time_of was);
+        no_later = omega (arith, last, ap (λ (b : Block). b.last) is, ap (λ (b : Block). b.last) was);
         stamps = at_place;
       }
         where
@@ -110,15 +115,32 @@ module _ (inside : Inside) (value : Blocks) (view_is : the_view inside ≡ value
           at_place zero = refl
           at_place (suc n) = rw (is, was, stamps) refl
 
-      module _ (t : ℕ) (k_positive : 1 ≤ inside.settings.k) (now : w.last ≡ t) (refs : List Reference) (timed : IsTimed refs) (has : HasStampsOf value page refs) where
+      pub no_later : w.last ≤ lent.now.last → (block_of (the_view (with_block inside at w)) page).last ≤ (block_of value page).last
+      no_later less = omega (arith, less, ap (λ (b : Block). b.last) is, ap (λ (b : Block). b.last) lends_block)
+
+      -- a block of absent stamps is one of no references
+      pub no_stamps_left : ((n : ℕ) → get_or w.stamps n 0 ≡ 0) → HasStampsOf (the_view (with_block inside at w)) page []
+      no_stamps_left absent = record { stamps = at_place; last = ap time_of is ∙ unstamped_time w (absent 0) }
+        where
+          at_place : (i : ℕ) → stamp_of (the_view (with_block inside at w)) page i ≡ stamp inside.settings.k inside.settings.correlated i []
+          at_place zero = sym (no_stamps inside.settings.k inside.settings.correlated 0)
+          at_place (suc n) = elim (cases_lt n inside.settings.k) [
+            | inl lt ↦ rw (lt-ltb n inside.settings.k lt, is) (absent n) ∙ sym (no_stamps inside.settings.k inside.settings.correlated (suc n))
+            | inr le ↦ rw (le-ltb n inside.settings.k le) refl ∙ sym (no_stamps inside.settings.k inside.settings.correlated (suc n))
+          ]
+
+      module _ (t : ℕ) (k_positive : 1 ≤ inside.settings.k) (positive : 1 ≤ t) (now : w.last ≡ t) (refs : List Reference) (timed : IsTimed refs) (has : HasStampsOf value page refs) where
         had : HasStampsOf (the_view inside) page refs
         had = subst (λ h. HasStampsOf h page refs) (sym view_is) has
 
         pub after_fault : IsShifted inside.settings.k 0 t lent.now.stamps w.stamps → HasStampsOf (the_view (with_block inside at w)) page (fault t ∷ refs)
-        after_fault shifted = has_after_fault (the_view inside) (the_view (with_block inside at w)) refl refl k_positive page t lent.now w was is now refs timed had shifted
+        after_fault shifted = has_after_fault (the_view inside) (the_view (with_block inside at w)) refl refl k_positive page t lent.now w was is (stamped_time w t shifted.newest positive ∙ now) refs timed had shifted
 
         pub after_late_hit : 0 < last_of value page → inside.settings.correlated < t - lent.now.last → IsShifted inside.settings.k (lent.now.last - get_or lent.now.stamps 0 0) t lent.now.stamps w.stamps → HasStampsOf (the_view (with_block inside at w)) page (hit t ∷ refs)
-        after_late_hit known late shifted = has_after_late_hit (the_view inside) (the_view (with_block inside at w)) refl refl k_positive page t lent.now w was is now refs timed had (subst (λ (b : Block). 0 < b.last) lends_block known) late shifted
+        after_late_hit known late shifted = has_after_late_hit (the_view inside) (the_view (with_block inside at w)) refl refl k_positive page t lent.now w was is (stamped_time w t shifted.newest positive ∙ now) refs timed had (subst (λ (b : Block). 0 < time_of b) lends_block known) late shifted
+
+        soon_time : 0 < last_of value page → w.stamps ≡ lent.now.stamps → time_of w ≡ w.last
+        soon_time known same = stamped_time w (get_or lent.now.stamps 0 0) (ap (λ xs. get_or xs 0 0) same) (stamped lent.now (subst (λ (b : Block). 0 < time_of b) lends_block known))
 
         pub after_soon_hit : 0 < last_of value page → t - lent.now.last ≤ inside.settings.correlated → w.stamps ≡ lent.now.stamps → HasStampsOf (the_view (with_block inside at w)) page (hit t ∷ refs)
-        after_soon_hit known soon same = has_after_soon_hit (the_view inside) (the_view (with_block inside at w)) refl refl k_positive page t lent.now w was is now refs timed had (subst (λ (b : Block). 0 < b.last) lends_block known) soon same
+        after_soon_hit known soon same = has_after_soon_hit (the_view inside) (the_view (with_block inside at w)) refl refl k_positive page t lent.now w was is (soon_time known same ∙ now) refs timed had (subst (λ (b : Block). 0 < time_of b) lends_block known) soon same

@@ -1,18 +1,18 @@
 -- What a purge leaves, and how many pages it forgets.
-use Rattle.std.proofs.Common.{◌≡◌, ◌≢◌, ℕ, zero, suc, ◌+◌, ◌<◌, Bool, true, false, [], None, unwrap_or, if◌then◌else◌, refl, sym, ap, inl, inr, arith}
+use Rattle.std.proofs.Common.{◌≡◌, ◌≢◌, ℕ, zero, suc, ◌+◌, ◌-◌, ◌<◌, nat_lt, not, ◌&&◌, Bool, true, false, [], None, unwrap_or, if◌then◌else◌, refl, sym, ap, inl, inr, arith}
 use Rattle.std.proofs.lemmas.Bool.{cases_eq}
 use Rattle.std.proofs.lemmas.Bool.Decides.{nat_tests}
 use Rattle.bp_replacer.specs.declared.histories.Block.{Block}
 use Rattle.bp_references.specs.Stamp.{stamp}
 use Rattle.bp_references.proofs.StampLaws.{no_stamps}
-use Rattle.bp_replacer.specs.Histories.{Blocks, find_block, no_block, block_of, stamp_of, is_outdated, HasStampsOf, SameAt}
+use Rattle.bp_replacer.specs.Histories.{Blocks, find_block, no_block, block_of, time_of, stamp_of, is_outdated, HasStampsOf, SameAt}
 use Rattle.bp_references.specs.Numbers.{count_below}
 
 -- ---- one page
 
 -- a page without a block has no history
 pub has_none : (h : Blocks) (page : ℕ) → find_block h.entries page ≡ None → HasStampsOf h page []
-has_none h page none = record { stamps = at; last = ap (λ (b : Block). b.last) blank }
+has_none h page none = record { stamps = at; last = ap time_of blank }
   where
     blank : block_of h page ≡ no_block
     blank = ap (λ o. unwrap_or o no_block) none
@@ -46,8 +46,11 @@ pub count_below_none : (f : ℕ → Bool) (n : ℕ) → ((q : ℕ) → f q ≡ f
 count_below_none f zero none = refl
 count_below_none f (suc n) none = rw (count_below_none f n none, none n) refl
 
-pub never_outdated : (retained t : ℕ) (b : Block) → b.last ≡ 0 → is_outdated retained t b ≡ false
-never_outdated retained t b unknown = grind (arith, nat_tests)
+pub never_outdated : (retained t : ℕ) (b : Block) → time_of b ≡ 0 → is_outdated retained t b ≡ false
+never_outdated retained t b unknown = go (time_of b) unknown
+  where
+    go : (n : ℕ) → n ≡ 0 → (not b.held && (nat_lt 0 n && nat_lt retained (t - n))) ≡ false
+    go n none = grind (arith, nat_tests)
 
 -- ---- what is told of a page
 
@@ -55,7 +58,8 @@ never_outdated retained t b unknown = grind (arith, nat_tests)
 pub same_at : (old new : Blocks) → new.k ≡ old.k → (page : ℕ) → block_of new page ≡ block_of old page → SameAt old new page
 same_at old new k page same = record {
   held = ap (λ (b : Block). b.held) same;
-  last = ap (λ (b : Block). b.last) same;
+  last = ap time_of same;
+  no_later = omega (arith, ap (λ (b : Block). b.last) same);
   stamps = stamps;
 }
   where
@@ -65,4 +69,7 @@ same_at old new k page same = record {
 
 -- a page that is forgotten wasn't held, and isn't
 pub outdated_not_held : (retained t : ℕ) (b : Block) → is_outdated retained t b ≡ true → b.held ≡ false
-outdated_not_held retained t b old = grind (arith, nat_tests)
+outdated_not_held retained t b old = go (time_of b) old
+  where
+    go : (n : ℕ) → (not b.held && (nat_lt 0 n && nat_lt retained (t - n))) ≡ true → b.held ≡ false
+    go n old = grind (arith, nat_tests)

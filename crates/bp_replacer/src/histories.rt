@@ -1,8 +1,8 @@
 //! `Histories`: what LRU-K keeps of each page's references, its K stamps and LAST.
-ghost use Rattle.std.specs.Prelude.{◌≡◌, ◌≢◌, ℕ, ◌+◌, ◌-◌, ◌^◌, ◌<◌, ◌≤◌, [], IsTrue, IsFalse, true, false, is_some, IsSome, IfOk, OnOk, OnErr, slice_index};
+ghost use Rattle.std.specs.Prelude.{◌≡◌, ◌≢◌, ℕ, ◌+◌, ◌-◌, ◌^◌, ◌<◌, ◌≤◌, [], IsTrue, IsFalse, true, false, is_some, IsSome, IfOk, OnOk, OnErr, slice_index, if◌then◌else◌};
 ghost use Rattle.bp_references.specs.Shift.{IsShifted};
 ghost use Rattle.bp_references.specs.Burst.Reference.{hit, fault};
-ghost use Rattle.bp_replacer.specs.Histories.{is_held, has_block, place_of, last_of, stamp_of, IsNow, HasStampsOf, SameAt, SameStampsAt, SameSettings, KeepsPlaces, AddsReference, forgets};
+ghost use Rattle.bp_replacer.specs.Histories.{is_held, has_block, place_of, time_of, last_of, latest_of, stamp_of, IsNow, HasStampsOf, SameAt, SameStampsAt, SameSettings, KeepsPlaces, AddsReference, forgets};
 ghost use Rattle.bp_references.specs.Numbers.{count_below};
 
 use crate::queue::Queue;
@@ -14,7 +14,8 @@ use std::collections::HashMap;
 use std::marker::Model;
 
 /// What is kept of a page: whether it is held and so may not be forgotten, whether it stands in the queue of pages to
-/// purge, the time of its newest reference, and its stamps, newest first.
+/// purge, the time of its newest reference, and its stamps, newest first. Where it was forgotten as it waits there, its
+/// stamps are absent, and that time is of a reference before.
 #[derive(Clone, Copy)]
 pub struct Block {
     held: bool,
@@ -58,8 +59,8 @@ impl BlockNo {
 ///
 /// A page that is let go waits in a queue, by the time of its newest reference. A purge takes out those whose time is
 /// past the retained period: it forgets them, except those that were held or referenced since they were let go, each of
-/// which it meets once for that. So its cost grows with the pages that it forgets or meets so, and not with those that
-/// are kept.
+/// which it meets once for that. A page that is forgotten while it waits keeps its block, without stamps, until then.
+/// So the cost of a purge grows with the pages that it forgets or meets so, and not with those that are kept.
 ///
 /// A `prepare` that finds the slots, the map's table or the queue full doubles them. Only it takes memory.
 #[derive(Drop)]
@@ -104,6 +105,21 @@ fn shift(stamps: &mut [u64; MAX_STAMPS], k: usize, width: u64, t: u64)
         stamps[i] = if newer == 0 { 0 } else { newer + width };
     }
     stamps[0] = t;
+}
+
+fn one_if(holds: bool) -> usize
+    ensures { result ≡ (if holds then 1 else 0) }
+{
+    if holds { 1 } else { 0 }
+}
+
+impl Block {
+    /// Returns the time of the newest reference, or 0 where there is none.
+    fn time(&self) -> u64
+        ensures { result ≡ time_of self.now }
+    {
+        if self.stamps[0] == 0 { 0 } else { self.last }
+    }
 }
 
 impl Histories {
@@ -180,7 +196,7 @@ impl Histories {
         } else {
             0
         };
-        (stamp, kept.last)
+        (stamp, kept.time())
     }
 
     /// Holds a page that is not held, and takes the memory of its block, if it has none. Its stamps stay. It fails by
@@ -238,13 +254,13 @@ impl Histories {
         Ok(block)
     }
 
-    /// Lets a held page go, because its read failed or it leaves its frame. Its stamps stay; a block without stamps is
-    /// dropped.
+    /// Lets a held page go, because its read failed or it leaves its frame. Its stamps stay; a block that never had one
+    /// is dropped.
     pub fn unprepare(&mut self, page: PageNo)
         requires { is_held self.old page ≡ true }
         ensures held { is_held self.new page ≡ false }
         ensures stamps { SameStampsAt self.old self.new page }
-        ensures vanishes { last_of self.old page ≡ 0 → IsFalse (has_block self.new page) }
+        ensures vanishes { latest_of self.old page ≡ 0 → IsFalse (has_block self.new page) }
         ensures others { (q : ℕ) → q ≢ page → SameAt self.old self.new q }
         ensures settings { SameSettings self.old self.new }
         ensures places { KeepsPlaces self.old self.new }
@@ -259,7 +275,7 @@ impl Histories {
         requires place { place_of self.old page ≡ Some block }
         ensures held { is_held self.new page ≡ false }
         ensures stamps { SameStampsAt self.old self.new page }
-        ensures vanishes { last_of self.old page ≡ 0 → IsFalse (has_block self.new page) }
+        ensures vanishes { latest_of self.old page ≡ 0 → IsFalse (has_block self.new page) }
         ensures others { (q : ℕ) → q ≢ page → SameAt self.old self.new q }
         ensures settings { SameSettings self.old self.new }
         ensures places { KeepsPlaces self.old self.new }
@@ -277,6 +293,42 @@ impl Histories {
             let last = kept.last;
             self.waiting.push(last, page.number());
         }
+    }
+
+    /// Forgets the references of a page, and lets it go if it is held. It takes no memory.
+    pub fn forget(&mut self, page: PageNo)
+        ensures held { is_held self.new page ≡ false }
+        ensures stamps { HasStampsOf self.new page [] }
+        ensures latest { latest_of self.new page ≤ latest_of self.old page }
+        ensures others { (q : ℕ) → q ≢ page → SameAt self.old self.new q }
+        ensures settings { SameSettings self.old self.new }
+        ensures places { KeepsPlaces self.old self.new }
+    {
+        let Some(block) = self.place(page) else {
+            return;
+        };
+        self.forget_at(page, block);
+    }
+
+    /// `forget`, of the page whose block this is.
+    pub fn forget_at(&mut self, page: PageNo, block: BlockNo)
+        requires place { place_of self.old page ≡ Some block }
+        ensures held { is_held self.new page ≡ false }
+        ensures stamps { HasStampsOf self.new page [] }
+        ensures latest { latest_of self.new page ≤ latest_of self.old page }
+        ensures others { (q : ℕ) → q ≢ page → SameAt self.old self.new q }
+        ensures settings { SameSettings self.old self.new }
+        ensures places { KeepsPlaces self.old self.new }
+    {
+        let slot = block.slot();
+        let kept = self.blocks.get_mut(slot).unwrap();
+        if kept.waits {
+            kept.held = false;
+            kept.stamps = [0; MAX_STAMPS];
+            return;
+        }
+        self.places.remove(&page.number());
+        self.blocks.remove(slot);
     }
 
     /// Adds the reference by which a held page is read from the device at the time `t`: each stamp moves by one place,
@@ -345,6 +397,7 @@ impl Histories {
         ensures kept { (page : ℕ) → forgets self.old t page ≡ false →
             SameAt self.old self.new page }
         ensures held { (page : ℕ) → is_held self.new page ≡ is_held self.old page }
+        ensures no_later { (page : ℕ) → latest_of self.new page ≤ latest_of self.old page }
 
         // Where no page from the bound on has a history, the pages to count are those below it.
         ensures counted { (bound : ℕ) → ((page : ℕ) → bound ≤ page → last_of self.old page ≡ 0) →
@@ -354,6 +407,7 @@ impl Histories {
     {
         let bound = t.saturating_sub(self.settings.retained);
         let before = self.places.len();
+        let mut forgotten_before = 0;
         while let Some((_, page)) = self.waiting.pop_below(bound) {
             let Some(block) = self.places.get(&page).copied() else {
                 continue;
@@ -366,10 +420,11 @@ impl Histories {
                 let last = kept.last;
                 self.waiting.push(last, page);
             } else {
+                forgotten_before += one_if(kept.stamps[0] == 0);
                 self.places.remove(&page);
                 self.blocks.remove(slot);
             }
         }
-        (before - self.places.len()) as u64
+        (before - self.places.len() - forgotten_before) as u64
     }
 }

@@ -4,7 +4,7 @@ use Rattle.bp_page.specs.declared.refusals.Refusal.{Refusal}
 use Rattle.bp_page.specs.declared.refusals.Refusal.TheVariants as refusal
 use Rattle.bp_core.specs.declared.passes.Pass.{Pass}
 use Rattle.bp_trail.specs.declared.entries.Call.{Call}
-use Rattle.bp_trail.specs.declared.entries.Call.TheVariants.{Mark, Fix, Flush, ReadEnd}
+use Rattle.bp_trail.specs.declared.entries.Call.TheVariants.{Mark, Fix, Flush, Discard, ReadEnd}
 use Rattle.bp_trail.specs.declared.entries.Reply.{Reply}
 use Rattle.bp_trail.specs.declared.entries.Reply.TheVariants.{WriteFirst, Fixed}
 use Rattle.bp_trail.specs.Parameters.{Parameters}
@@ -12,7 +12,7 @@ use Rattle.bp_trail.specs.Trail.{Trail}
 use Rattle.bp_trail.specs.Clock.{durable}
 use Rattle.bp_trail.specs.Legal.{Legal}
 use Rattle.bp_core.specs.CoreView.{CoreView, with_entry}
-use Rattle.bp_core.specs.Outcomes.{Adds, FixOutcome, FlushOutcome, ReadEndByOutcome, StepOutcome, TickOutcome, PurgeOutcome, ReadOutcome, WriteOutcome}
+use Rattle.bp_core.specs.Outcomes.{Adds, FixOutcome, FlushOutcome, DiscardOutcome, ReadEndByOutcome, StepOutcome, TickOutcome, PurgeOutcome, ReadOutcome, WriteOutcome}
 use Rattle.bp_trail.specs.Event.{Grant}
 use Rattle.bp_trail.specs.Pieces.{by}
 use Rattle.bp_trail.proofs.Events.{Event, event-of}
@@ -20,7 +20,7 @@ use Rattle.bp_trail.proofs.Events.Event.{fix_write, flush_write}
 use Rattle.bp_trail.proofs.Victim.{victim-is, candidate-resident}
 use Rattle.bp_trail.proofs.Ranges.{sized}
 use Rattle.bp_session_log.specs.Books.{Alike}
-use Rattle.bp_session_log.specs.Turns.{LookOutcome, TickSaid, PurgeSaid, ReadSaid, WriteSaid, fix_refuses, flush_refuses, refusal_reply}
+use Rattle.bp_session_log.specs.Turns.{LookOutcome, TickSaid, PurgeSaid, ReadSaid, WriteSaid, fix_refuses, flush_refuses, discard_refuses, refusal_reply}
 
 -- the core after an event that may have been refused with no entry
 abbrev pub core_told : CoreView → ℕ → Call → Option Reply → CoreView
@@ -45,6 +45,12 @@ flush_refused old new client page refusal.Busy h = record { allowed = refl; is =
 flush_refused old new client page refusal.TrailFull h = record { allowed = refl; is = h.1 }
 flush_refused old new client page refusal.OutOfMemory h = record { allowed = refl; is = h.1 }
 flush_refused old new client page _ h = absurd h
+
+pub discard_refused : (old new : CoreView) (client page : ℕ) (why : Refusal) → DiscardOutcome old client page (Err why) new → Refuses discard_refuses old client (Discard page) why new
+discard_refused old new client page refusal.Busy h = record { allowed = refl; is = h.1.is }
+discard_refused old new client page refusal.Pinned h = record { allowed = refl; is = h.1.is }
+discard_refused old new client page refusal.TrailFull h = record { allowed = refl; is = h.1 }
+discard_refused old new client page _ h = absurd h
 
 -- an event that was refused with no entry: the core stays, and so may the list
 pub record AddsNone (Says : Trail → Trail → Type 0) (old new : CoreView) : Type 0 where

@@ -4,7 +4,7 @@ use Rattle.std.specs.Prelude.{length, take, drop}
 use Rattle.bp_page.specs.declared.refusals.Refusal.{Refusal}
 use Rattle.bp_page.specs.declared.refusals.Refusal.TheVariants as refusal
 use Rattle.bp_page.specs.declared.refusals.PortFault.{PortFault}
-use Rattle.bp_trail.specs.Ends.{read_refusal, ended_reply}
+use Rattle.bp_trail.specs.Ends.{read_refusal, ended_reply, discarded_reply}
 use Rattle.bp_core.specs.declared.passes.Pass.{Pass}
 use Rattle.bp_core.specs.declared.passes.ReadTicket.{ReadTicket}
 use Rattle.bp_core.specs.declared.passes.WriteTicket.{WriteTicket}
@@ -13,10 +13,11 @@ use Rattle.bp_session_log.specs.declared.pending.Fix.TheVariants as fixing
 use Rattle.bp_session_log.specs.declared.pending.Flush.{Flush as Flushing}
 use Rattle.bp_session_log.specs.declared.pending.Flush.TheVariants as flushing
 use Rattle.bp_trail.specs.declared.ends.Ended.{Ended}
+use Rattle.bp_trail.specs.declared.ends.Discarded.{Discarded}
 use Rattle.bp_trail.specs.declared.entries.Call.{Call}
-use Rattle.bp_trail.specs.declared.entries.Call.TheVariants.{Mark, Fix, ReadEnd, WriteEnd, Flush, Tick, Read, Write, Purge}
+use Rattle.bp_trail.specs.declared.entries.Call.TheVariants.{Mark, Fix, ReadEnd, WriteEnd, Flush, Discard, Tick, Read, Write, Purge}
 use Rattle.bp_trail.specs.declared.entries.Reply.{Reply}
-use Rattle.bp_trail.specs.declared.entries.Reply.TheVariants.{Done, Hit, Load, WriteFirst, NoVictim, NeedLog, Busy, Fixed, ReadFailed, WrongPage, WriteFailed, Clean, Absent, Content, Forgot}
+use Rattle.bp_trail.specs.declared.entries.Reply.TheVariants.{Done, Hit, Load, WriteFirst, NoVictim, NeedLog, Busy, Fixed, ReadFailed, WrongPage, WriteFailed, Clean, Absent, Pinned, Content, Forgot}
 use Rattle.bp_trail.specs.Trail.{Trail}
 use Rattle.bp_trail.specs.Clock.{durable}
 use Rattle.bp_core.specs.CoreView.{CoreView}
@@ -46,6 +47,7 @@ abbrev pub refusal_reply : Refusal → Option Reply
 refusal_reply refusal.NoVictim = Some NoVictim
 refusal_reply (refusal.NeedLog lsn) = Some (NeedLog lsn)
 refusal_reply refusal.Busy = Some Busy
+refusal_reply refusal.Pinned = Some Pinned
 refusal_reply _ = None
 
 abbrev pub and_told : ℕ → Call → Option Reply → Trail → Trail
@@ -59,6 +61,13 @@ flush_refuses refusal.Busy = true
 flush_refuses refusal.TrailFull = true
 flush_refuses refusal.OutOfMemory = true
 flush_refuses _ = false
+
+abbrev pub discard_refuses : Refusal → Bool
+discard_refuses refusal.Busy = true
+discard_refuses refusal.Pinned = true
+discard_refuses refusal.TrailFull = true
+discard_refuses refusal.OutOfMemory = true
+discard_refuses _ = false
 
 abbrev pub fix_refuses : Refusal → Bool
 fix_refuses refusal.NoVictim = true
@@ -89,6 +98,13 @@ AskFlushOutcome client page (Ok (flushing.WriteFirst ticket)) said after =
     × (after ≡ by client (Flush page) (WriteFirst ticket.serial ticket.page ticket.image) ∷ said)
 AskFlushOutcome client page (Err why) said after =
     (flush_refuses why ≡ true) × (after ≡ and_told client (Flush page) (refusal_reply why) said)
+
+-- one discard event, for which nobody looks at the mark
+abbrev pub DiscardTurn : ℕ → ℕ → Result Discarded Refusal → Trail → Trail → Type 0
+DiscardTurn client page (Ok how) said after =
+    after ≡ by client (Discard page) (discarded_reply how) ∷ said
+DiscardTurn client page (Err why) said after =
+    (discard_refuses why ≡ true) × (after ≡ and_told client (Discard page) (refusal_reply why) said)
 
 -- calls of one event: the entry with the reply that the call answers, or a refusal and no entry; a
 -- pass is the client's own, or refused

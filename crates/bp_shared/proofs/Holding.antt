@@ -6,7 +6,7 @@ use Rattle.std.proofs.lemmas.List.{append_cancel_right}
 use native.Mathlib.Decide.{ℕ_discrete}
 use Rattle.bp_trail.specs.declared.entries.Entry.{Entry}
 use Rattle.bp_trail.specs.declared.entries.Call.{Call}
-use Rattle.bp_trail.specs.declared.entries.Call.TheVariants.{Tick, Mark, Fix, ReadEnd, WriteEnd, Read, Write, Unfix, Flush, Purge}
+use Rattle.bp_trail.specs.declared.entries.Call.TheVariants.{Tick, Mark, Fix, ReadEnd, WriteEnd, Read, Write, Unfix, Flush, Discard, Purge}
 use Rattle.bp_trail.specs.declared.entries.Reply.{Reply}
 use Rattle.bp_trail.specs.declared.entries.Reply.TheVariants.{Hit, Fixed}
 use Rattle.bp_trail.specs.Parameters.{Parameters}
@@ -90,6 +90,7 @@ unfix-or-other (WriteEnd t p good) = inr (record { told_of = refl; gives_none = 
 unfix-or-other (Read n p) = inr (record { told_of = refl; gives_none = refl; unfixes_none = λ c. refl })
 unfix-or-other (Write n p offset bytes lsn) = inr (record { told_of = refl; gives_none = refl; unfixes_none = λ c. refl })
 unfix-or-other (Flush p) = inr (record { told_of = refl; gives_none = refl; unfixes_none = λ c. refl })
+unfix-or-other (Discard p) = inr (record { told_of = refl; gives_none = refl; unfixes_none = λ c. refl })
 unfix-or-other Purge = inr (record { told_of = refl; gives_none = refl; unfixes_none = λ c. refl })
 
 pass-whose : (c p : ℕ) (r : Reply) (x : Grant) → pass_given c p r ≡ Some x → x.client ≡ c

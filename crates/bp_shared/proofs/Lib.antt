@@ -6,6 +6,7 @@ pub mod Taking
 pub mod Fixing
 pub mod Making
 pub mod Flushing
+pub mod Discarding
 pub mod Telling
 pub mod Posting
 pub mod Holding

@@ -7,7 +7,7 @@ use Rattle.bp_page.specs.declared.refusals.Refusal.{Refusal}
 use Rattle.bp_page.specs.declared.refusals.Refusal.TheVariants as refusal
 use Rattle.bp_page.specs.declared.refusals.PortFault.{PortFault}
 use Rattle.bp_trail.specs.declared.entries.Call.{Call}
-use Rattle.bp_trail.specs.declared.entries.Call.TheVariants.{Mark, Fix, ReadEnd, WriteEnd, Flush, Tick, Read, Write, Purge, Unfix}
+use Rattle.bp_trail.specs.declared.entries.Call.TheVariants.{Mark, Fix, ReadEnd, WriteEnd, Flush, Discard, Tick, Read, Write, Purge, Unfix}
 use Rattle.bp_trail.specs.declared.entries.Reply.{Reply}
 use Rattle.bp_trail.specs.declared.entries.Reply.TheVariants.{Done, Hit, Load, WriteFirst, Fixed, ReadFailed, WrongPage, WriteFailed, Clean, Absent, Content, Forgot}
 use Rattle.bp_trail.specs.declared.entries.Entry.{Entry}
@@ -19,9 +19,10 @@ use Rattle.bp_core.specs.declared.passes.Pass.{Pass}
 use Rattle.bp_core.specs.declared.passes.ReadTicket.{ReadTicket}
 use Rattle.bp_core.specs.declared.passes.WriteTicket.{WriteTicket}
 use Rattle.bp_trail.specs.declared.ends.Ended.{Ended}
+use Rattle.bp_trail.specs.declared.ends.Discarded.{Discarded}
 use Rattle.bp_core.specs.CoreView.{CoreView}
 use Rattle.bp_core.specs.Outcomes.{Cuts}
-use Rattle.bp_trail.specs.Ends.{ended_reply}
+use Rattle.bp_trail.specs.Ends.{ended_reply, discarded_reply}
 use Rattle.bp_trail.specs.Clients.{of_client}
 use Rattle.bp_trail.proofs.Comparing.{of_client-append, of_client-hit, of_client-miss}
 use Rattle.bp_session_log.specs.Boards.{Opens, Writes}
@@ -35,7 +36,7 @@ use Rattle.bp_session_log.specs.declared.pending.Fix.{Fix as Fixing}
 use Rattle.bp_session_log.specs.declared.pending.Fix.TheVariants as fixing
 use Rattle.bp_session_log.specs.declared.pending.Flush.{Flush as Flushing}
 use Rattle.bp_session_log.specs.declared.pending.Flush.TheVariants as flushing
-use Rattle.bp_session_log.specs.Turns.{LookOutcome, refusal_reply, and_told, AskFixOutcome, AskFlushOutcome, ReadSaid, ReadIntoSaid, WriteSaid, TickSaid, PurgeSaid, EndReadOutcome, EndWriteOutcome}
+use Rattle.bp_session_log.specs.Turns.{LookOutcome, refusal_reply, and_told, AskFixOutcome, AskFlushOutcome, DiscardTurn, ReadSaid, ReadIntoSaid, WriteSaid, TickSaid, PurgeSaid, EndReadOutcome, EndWriteOutcome}
 use Rattle.bp_shared.specs.Posting.{IsUnfixedBy, TakesBack}
 use Rattle.bp_shared.specs.Telling.{is_told, told, IsLineOf, IsShown, IsToldBy, IsListOf, IsBlank, GoesOnFrom, AreEarlier}
 
@@ -178,6 +179,10 @@ ask_flush_one client page (Ok flushing.Clean) said after h = inr (Flush page, Cl
 ask_flush_one client page (Ok flushing.Absent) said after h = inr (Flush page, Absent, h)
 ask_flush_one client page (Ok (flushing.WriteFirst ticket)) said after h = inr (Flush page, WriteFirst ticket.serial ticket.page ticket.image, h.2)
 ask_flush_one client page (Err why) said after h = and_told_one client (Flush page) (refusal_reply why) said after h.1
+
+pub discard_one : (client page : ℕ) (answer : Result Discarded Refusal) (said after : Trail) → DiscardTurn client page answer said after → OneMore client said after
+discard_one client page (Ok how) said after h = inr (Discard page, discarded_reply how, h)
+discard_one client page (Err why) said after h = and_told_one client (Discard page) (refusal_reply why) said after h.1
 
 pub tick_one : {A : Type 0} (client n : ℕ) (answer : Result A Refusal) (said after : Trail) → TickSaid client n answer said after → OneMore client said after
 tick_one client n (Ok done) said after h = inr (Tick n, Done, h)

@@ -6,7 +6,7 @@ use Rattle.std.proofs.lemmas.List.{append-nil, reverse-append, reverse-reverse, 
 use Rattle.std.proofs.lemmas.List.Elements.{filter_map-append}
 use Rattle.bp_trail.specs.declared.entries.Entry.{Entry}
 use Rattle.bp_trail.specs.declared.entries.Call.{Call}
-use Rattle.bp_trail.specs.declared.entries.Call.TheVariants.{Tick, Mark, Fix, ReadEnd, WriteEnd, Read, Write, Unfix, Flush, Purge}
+use Rattle.bp_trail.specs.declared.entries.Call.TheVariants.{Tick, Mark, Fix, ReadEnd, WriteEnd, Read, Write, Unfix, Flush, Discard, Purge}
 use Rattle.bp_trail.specs.declared.entries.Reply.{Reply}
 use Rattle.bp_trail.specs.declared.entries.Reply.TheVariants.{Done}
 use Rattle.bp_trail.specs.Parameters.{Parameters}
@@ -118,6 +118,7 @@ kind-of client (WriteEnd t p good) reply said held = stays refl refl refl
 kind-of client (Read n p) reply said held = stays refl refl refl
 kind-of client (Write n p offset bytes lsn) reply said held = stays refl refl refl
 kind-of client (Flush p) reply said held = stays refl refl refl
+kind-of client (Discard p) reply said held = stays refl refl refl
 kind-of client Purge reply said held = stays refl refl refl
 
 module _ (e : Entry) (said : Trail) (n p : ℕ) (call : e.call ≡ Unfix n p) (reply : e.reply ≡ Done) where

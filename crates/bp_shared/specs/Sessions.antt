@@ -11,13 +11,14 @@ use Rattle.bp_trail.specs.declared.entries.Entry.{Entry}
 use Rattle.bp_trail.specs.Event.{Grant, grant}
 use Rattle.bp_trail.specs.Trail.{Trail}
 use Rattle.bp_core.specs.Outcomes.{pass_is_out}
-use Rattle.bp_trail.specs.Pieces.{by, FixPiece, FlushPiece}
+use Rattle.bp_trail.specs.Pieces.{by, FixPiece, FlushPiece, DiscardPiece}
 use Rattle.bp_trail.specs.Pieces.Manner.{session}
 use Rattle.bp_trail.specs.Pieces.Outcome.{accepted, refused}
 use Rattle.bp_session_log.specs.Books.{owed, NeedNotGrow}
 use Rattle.bp_trail.specs.declared.ends.Flushed.{Flushed}
+use Rattle.bp_trail.specs.declared.ends.Discarded.{Discarded}
 use Rattle.bp_core.specs.Added.{Gives, Ends}
-use Rattle.bp_trail.specs.Ends.{flushed_reply}
+use Rattle.bp_trail.specs.Ends.{flushed_reply, discarded_reply}
 use Rattle.bp_core.specs.Work.{Reads, Writes, WorksThrough}
 
 -- whose session it is, and its list: what cuts handed out, and all of it; the pool's trail as a call
@@ -113,6 +114,13 @@ FlushSaid client page (Ok how) said after =
 FlushSaid client page (Err why) said after =
     Says (λ piece. FlushPiece session client page piece (refused (number_of why))
     × Repeats why piece) None said after
+
+abbrev pub DiscardSaid : ℕ → ℕ → Result Discarded Refusal → Trail → Trail → Type 0
+DiscardSaid client page (Ok how) said after =
+    Says (λ piece. DiscardPiece session client page piece accepted
+    × Ends (discarded_reply how) piece) None said after
+DiscardSaid client page (Err why) said after =
+    Says (λ piece. DiscardPiece session client page piece (refused (number_of why))) None said after
 
 -- a write with some page LSN, which the trail has under the lock
 abbrev pub WithSomeLsn : {A : Type 0} → Writes A → Writes A

@@ -23,7 +23,7 @@ mod taker;
 mod trail_ring;
 
 use bp_keeper::SilentKeeper;
-pub use bp_trail::Flushed;
+pub use bp_trail::{Discarded, Flushed};
 pub use closed_pool::ClosedPool;
 pub use log_writer::LogWriter;
 pub use names::PoolName;

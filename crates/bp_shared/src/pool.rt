@@ -27,6 +27,7 @@ use std::marker::Model;
 use std::sync::{Condvar, Mutex, MutexGuard, Wait};
 
 mod checkpoint;
+mod discarding;
 mod fixing;
 mod flush_all;
 mod flushing;

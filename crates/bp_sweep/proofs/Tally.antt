@@ -11,7 +11,7 @@ use Rattle.bp_trail.specs.declared.entries.Reply.{Reply}
 use Rattle.bp_trail.specs.declared.entries.Reply.TheVariants.{Hit, Load, WriteFirst, Busy, Done, Fixed, ReadFailed}
 use Rattle.bp_trail.specs.Event.{is_write, page_of}
 use Rattle.bp_trail.specs.Event.{writes}
-use Rattle.bp_trail.specs.Saved.{began_saving, unsaved}
+use Rattle.bp_trail.specs.Saved.{settles, unsaved}
 use Rattle.bp_trail.specs.Lists.{since}
 use Rattle.bp_trail.specs.Passes.{passes, tickets}
 use Rattle.bp_trail.specs.Places.{loading, resident}
@@ -23,7 +23,7 @@ use Rattle.bp_trail.specs.Legal.{Legal}
 use Rattle.bp_trail.specs.Pieces.{by}
 use Rattle.bp_trail.specs.declared.totals.Totals.{Totals}
 use Rattle.bp_trail.specs.Totals.{HasRoom, counted, no_totals, one, replies, totals_of}
-use Rattle.bp_trail.specs.Totals.{is_hit, is_fault, is_eviction, is_failure, is_refusal}
+use Rattle.bp_trail.specs.Totals.{is_hit, is_fault, is_eviction, is_failure, is_refusal, is_discarded}
 use Rattle.bp_trail.specs.Totals.{is_write as is_write_reply}
 use Rattle.bp_trail.specs.Ends.{read_failure}
 use Rattle.bp_core.specs.CoreView.{CoreView, with_entry, HasRoomFor}
@@ -57,6 +57,7 @@ totals-more e past = λ i. record {
   writes = replies-more is_write_reply e past i;
   failed = replies-more is_failure e past i;
   refused = replies-more is_refusal e past i;
+  discards = replies-more is_discarded e past i;
 }
 
 pub totals-none : no_totals ≡ totals_of []
@@ -73,6 +74,7 @@ totals-room past few = record {
   writes = omega (arith, few, replies-most is_write_reply past);
   failed = omega (arith, few, replies-most is_failure past);
   refused = omega (arith, few, replies-most is_refusal past);
+  discards = omega (arith, few, replies-most is_discarded past);
 }
 
 pub tally-room : (core : CoreView) (totals : Totals) → IsTallied core totals → length core.past ≤ 2 ^ 62 → HasRoom totals
@@ -102,6 +104,7 @@ done-totals totals = λ i. record {
   writes = same totals.writes i;
   failed = same totals.failed i;
   refused = same totals.refused i;
+  discards = same totals.discards i;
 }
   where
     same : (n : ℕ) → n + 0 ≡ n
@@ -145,7 +148,7 @@ nothing-since p stop (e ∷ past) is =
     never false = refl
 
 pub nothing-unsaved : (past : Trail) (p : ℕ) → is_unwritten past ≡ true → unsaved past p ≡ false
-nothing-unsaved past p is = nothing-since p (λ e. began_saving past p e.reply) past is
+nothing-unsaved past p is = nothing-since p (settles past p) past is
 
 -- a fix that begins with a write-out
 abbrev pub is_write_first : Reply → Bool

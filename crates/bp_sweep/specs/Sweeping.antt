@@ -25,6 +25,7 @@ best_totals best =
       writes = 0;
       failed = 0;
       refused = 0;
+      discards = 0;
     }
 
 -- the totals are those of an optimum of the references over so many frames

@@ -91,6 +91,7 @@ fn totals_of_best(best: Optimum) -> Totals
         writes: 0,
         failed: 0,
         refused: 0,
+        discards: 0,
     }
 }
 

@@ -3,7 +3,7 @@ use Rattle.std.proofs.Common.{◌≡◌, ◌∙◌, ℕ, suc, ◌+◌, ◌<◌, 
 use Rattle.std.specs.Prelude.{Bool}
 use Rattle.bp_trail.specs.declared.entries.Entry.{Entry}
 use Rattle.bp_trail.specs.declared.entries.Call.{Call}
-use Rattle.bp_trail.specs.declared.entries.Call.TheVariants.{Tick, Mark, Fix, ReadEnd, WriteEnd, Read, Write, Unfix, Flush, Purge}
+use Rattle.bp_trail.specs.declared.entries.Call.TheVariants.{Tick, Mark, Fix, ReadEnd, WriteEnd, Read, Write, Unfix, Flush, Discard, Purge}
 use Rattle.bp_trail.specs.declared.entries.Reply.{Reply}
 use Rattle.bp_trail.specs.declared.scripts.Refused.{Refused}
 use Rattle.bp_trail.specs.Trail.{Trail}
@@ -34,4 +34,5 @@ clock-next past client (Read n p) reply = omega arith
 clock-next past client (Write n p offset bytes lsn) reply = omega arith
 clock-next past client (Unfix n p) reply = omega arith
 clock-next past client (Flush p) reply = omega arith
+clock-next past client (Discard p) reply = omega arith
 clock-next past client Purge reply = omega arith

@@ -141,6 +141,7 @@ module _ (g : Geometry) (c : Parameters) (pages : c.pages ≡ g.pages) (size : c
   step-suits op.Unfix own first is = of_page step.Unfix (λ page h. (h, tt, tt)) is
   step-suits op.Read own first is = of_page step.Read (λ page h. (h, tt, tt)) is
   step-suits op.Flush own first is = of_page step.Flush (λ page h. (h, tt, tt)) is
+  step-suits op.Discard own first is = of_page step.Discard (λ page h. (h, tt, tt)) is
   step-suits op.Write own first is = of_write (written g t s is)
   step-suits op.Tick own first is = of_number step.Tick (λ n h. (tt, tt, h)) is
   step-suits op.Log own first is = let zero = first_of_log own first in of_number step.Log (λ n h. (tt, zero, h)) is

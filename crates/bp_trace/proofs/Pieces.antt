@@ -9,7 +9,7 @@ use Rattle.bp_trail.specs.Clock.{clock}
 use Rattle.bp_trail.specs.declared.totals.Totals.{Totals}
 use Rattle.bp_trace.specs.Lines.{event_line}
 use Rattle.bp_trace.specs.Totals.{totals_text}
-use Rattle.bp_trail.specs.Totals.{counted, is_eviction, is_failure, is_fault, is_hit, is_refusal, is_write, one, replies, totals_of}
+use Rattle.bp_trail.specs.Totals.{counted, is_discarded, is_eviction, is_failure, is_fault, is_hit, is_refusal, is_write, one, replies, totals_of}
 use Rattle.bp_trace.specs.Report.{lines_after, report_text, steps_of}
 use Rattle.bp_trace.specs.Pieces.{lines_from, Taken, none_taken, and_one, and_taken, text_of_pieces, joined, MayTake, TakesNoMore}
 use Rattle.bp_trace.proofs.Entries.{clock-next, drop-item}
@@ -92,8 +92,9 @@ same-totals entries =
     let writes : t.writes ≡ replies is_write entries = omega (arith, counted-all (λ t. t.writes) is_write (λ r t. refl) none_taken entries) in
     let failed : t.failed ≡ replies is_failure entries = omega (arith, counted-all (λ t. t.failed) is_failure (λ r t. refl) none_taken entries) in
     let refused : t.refused ≡ replies is_refusal entries = omega (arith, counted-all (λ t. t.refused) is_refusal (λ r t. refl) none_taken entries) in
-    let found : t ≡ record { hits = replies is_hit entries; faults = replies is_fault entries; evictions = replies is_eviction entries; writes = replies is_write entries; failed = replies is_failure entries; refused = replies is_refusal entries } =
-    λ i. record { hits = hits i; faults = faults i; evictions = evictions i; writes = writes i; failed = failed i; refused = refused i } in
+    let discards : t.discards ≡ replies is_discarded entries = omega (arith, counted-all (λ t. t.discards) is_discarded (λ r t. refl) none_taken entries) in
+    let found : t ≡ record { hits = replies is_hit entries; faults = replies is_fault entries; evictions = replies is_eviction entries; writes = replies is_write entries; failed = replies is_failure entries; refused = replies is_refusal entries; discards = replies is_discarded entries } =
+    λ i. record { hits = hits i; faults = faults i; evictions = evictions i; writes = writes i; failed = failed i; refused = refused i; discards = discards i } in
     found
 
 pub pieces-report : (pieces : List (List Entry)) → text_of_pieces none_taken pieces ≡ report_text (joined pieces)

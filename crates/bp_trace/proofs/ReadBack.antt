@@ -69,6 +69,7 @@ module _ (g : Geometry) (c : Parameters) (pages : c.pages ≡ g.pages) (size : c
   step-reads_back (step.Unfix page) own fits number = rw (said, small, page_in-decimal g page (rw pages at fits)) refl
   step-reads_back (step.Read page) own fits number = rw (said, small, page_in-decimal g page (rw pages at fits)) refl
   step-reads_back (step.Flush page) own fits number = rw (said, small, page_in-decimal g page (rw pages at fits)) refl
+  step-reads_back (step.Discard page) own fits number = rw (said, small, page_in-decimal g page (rw pages at fits)) refl
   step-reads_back (step.Write page offset bytes lsn) own fits number =
       rw (said, small, write_in-written g client page offset bytes lsn (rw pages at fits.0) (rw size at fits.1) number.0 number.1) refl
   step-reads_back (step.Tick steps) own fits number = rw (said, small, number_in-decimal steps number) refl

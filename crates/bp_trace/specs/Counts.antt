@@ -6,4 +6,4 @@ use Rattle.bp_trail.specs.declared.totals.Totals.{Totals}
 abbrev pub AreWithin : ℕ → Totals → Type 0
 AreWithin entries t =
     (t.hits ≤ entries) × (t.faults ≤ entries) × (t.evictions ≤ entries) × (t.writes ≤ entries)
-    × (t.failed ≤ entries) × (t.refused ≤ entries)
+    × (t.failed ≤ entries) × (t.refused ≤ entries) × (t.discards ≤ entries)

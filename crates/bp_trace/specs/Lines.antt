@@ -4,13 +4,18 @@ use Rattle.std.specs.Fmt.{decimal}
 use Rattle.hex.specs.Hex.{encode_lower}
 use Rattle.bp_trail.specs.declared.entries.Entry.{Entry}
 use Rattle.bp_trail.specs.declared.entries.Reply.{Reply}
-use Rattle.bp_trail.specs.declared.entries.Reply.TheVariants.{Load, Cleaned, StillDirty, Content}
+use Rattle.bp_trail.specs.declared.entries.Reply.TheVariants.{Load, Cleaned, StillDirty, Content, Discarded}
 use Rattle.bp_trail.specs.declared.scripts.Refused.{Refused}
 use Rattle.bp_trail.specs.Event.{page_of}
 
--- a page left its frame
+-- a page left its frame for another
 abbrev pub evict_line : ℕ → ℕ → List ℕ
 evict_line time page = codes "evict " ++ decimal time ++ codes " " ++ decimal page ++ codes "\n"
+
+-- a page left its frame as it was discarded
+abbrev pub discard_line : ℕ → ℕ → List ℕ
+discard_line time page =
+    codes "discard " ++ decimal time ++ codes " " ++ decimal page ++ codes "\n"
 
 -- a write-out of a page ended well
 abbrev pub out_line : ℕ → ℕ → List ℕ
@@ -25,6 +30,7 @@ read_line client page image =
 -- the line of a reply at a time, to a client's call on a page; most replies have none
 abbrev pub line_of : ℕ → ℕ → ℕ → Reply → List ℕ
 line_of time client page (Load ticket (Some victim)) = evict_line time victim
+line_of time client page Discarded = discard_line time page
 line_of time client page Cleaned = out_line time page
 line_of time client page StillDirty = out_line time page
 line_of time client page (Content image) = read_line client page image

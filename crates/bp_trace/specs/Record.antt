@@ -18,6 +18,7 @@ op_in text =
     else if bytes_eq text (codes "unfix") then Ok op.Unfix
     else if bytes_eq text (codes "read") then Ok op.Read
     else if bytes_eq text (codes "flush") then Ok op.Flush
+    else if bytes_eq text (codes "discard") then Ok op.Discard
     else if bytes_eq text (codes "write") then Ok op.Write
     else if bytes_eq text (codes "tick") then Ok op.Tick
     else if bytes_eq text (codes "log") then Ok op.Log
@@ -66,6 +67,9 @@ step_in g op.Read t = do
 step_in g op.Flush t = do
   page ← page_in g t.number
   Ok (step.Flush page)
+step_in g op.Discard t = do
+  page ← page_in g t.number
+  Ok (step.Discard page)
 step_in g op.Write t = write_in g t
 step_in g op.Tick t = do
   steps ← number_wanted t.number

@@ -14,4 +14,5 @@ totals_text t =
     ++ (total_line (codes "evictions") t.evictions
     ++ (total_line (codes "writes") t.writes
     ++ (total_line (codes "failed") t.failed
-    ++ total_line (codes "refused") t.refused))))
+    ++ (total_line (codes "refused") t.refused
+    ++ total_line (codes "discards") t.discards)))))

@@ -15,6 +15,7 @@ written_step (step.Fix page) = with_number (codes "fix") page
 written_step (step.Unfix page) = with_number (codes "unfix") page
 written_step (step.Read page) = with_number (codes "read") page
 written_step (step.Flush page) = with_number (codes "flush") page
+written_step (step.Discard page) = with_number (codes "discard") page
 written_step (step.Write page offset bytes lsn) =
     codes "write" ∷ decimal page ∷ decimal offset ∷ encode_lower bytes ∷ decimal lsn ∷ []
 written_step (step.Tick n) = with_number (codes "tick") n

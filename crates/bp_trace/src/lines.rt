@@ -1,4 +1,4 @@
-//! The lines of a report: one for an eviction, a write-out or a read, and one for a refused row.
+//! The lines of a report: one for an eviction, a discard, a write-out or a read, and one for a refused row.
 ghost use Rattle.std.specs.Prelude.{◌≡◌, ◌≤◌, length, OnOk};
 ghost use Rattle.std.specs.Io.KnownBytes.{Appends};
 ghost use Rattle.hex.specs.Hex.{encode_lower};
@@ -23,7 +23,8 @@ fn page_of(call: &Call) -> u64
         | Call::Read { page, .. }
         | Call::Write { page, .. }
         | Call::Unfix { page, .. }
-        | Call::Flush(page) => page.number(),
+        | Call::Flush(page)
+        | Call::Discard(page) => page.number(),
         Call::Tick(_) | Call::Mark(_) | Call::Purge => 0,
     }
 }
@@ -64,6 +65,7 @@ pub fn write_event<W: Write>(time: u128, entry: &Entry, writer: &mut W) -> io::R
             let victim = victim.number();
             writeln!(writer, "evict {time} {victim}")
         }
+        Reply::Discarded => writeln!(writer, "discard {time} {page}"),
         Reply::Cleaned | Reply::StillDirty => writeln!(writer, "out {time} {page}"),
         Reply::Content(image) => write_read(entry.client, page, image.bytes(), writer),
         _ => Ok(()),

@@ -41,8 +41,8 @@ fn write_events<W: Write>(entries: &[Entry], writer: &mut W) -> io::Result<Total
     Ok(totals)
 }
 
-/// Writes the report of the entries, oldest first: a line for each eviction, write-out and read, and then the six
-/// totals.
+/// Writes the report of the entries, oldest first: a line for each eviction, discard, write-out and read, and then the
+/// seven totals.
 ///
 /// A fault of the writer is passed on; the writer may then hold any part of the report.
 pub fn report<W: Write>(entries: &[Entry], writer: &mut W) -> io::Result<()>
@@ -53,7 +53,7 @@ pub fn report<W: Write>(entries: &[Entry], writer: &mut W) -> io::Result<()>
     write_totals(&totals, writer)
 }
 
-/// Writes only the six totals of the entries.
+/// Writes only the seven totals of the entries.
 ///
 /// A fault of the writer is passed on; the writer may then hold any part of the totals.
 pub fn report_totals<W: Write>(entries: &[Entry], writer: &mut W) -> io::Result<()>

@@ -18,6 +18,7 @@ enum Op {
     Unfix,
     Read,
     Flush,
+    Discard,
     Write,
     Tick,
     Log,
@@ -37,6 +38,8 @@ fn parse_op(text: &[u8]) -> Result<Op, InputFault>
         Ok(Op::Read)
     } else if text == b"flush".as_slice() {
         Ok(Op::Flush)
+    } else if text == b"discard".as_slice() {
+        Ok(Op::Discard)
     } else if text == b"write".as_slice() {
         Ok(Op::Write)
     } else if text == b"tick".as_slice() {
@@ -119,6 +122,7 @@ fn parse_step(
         Op::Unfix => Ok(Step::Unfix(wanted_page(geometry, fields.number)?)),
         Op::Read => Ok(Step::Read(wanted_page(geometry, fields.number)?)),
         Op::Flush => Ok(Step::Flush(wanted_page(geometry, fields.number)?)),
+        Op::Discard => Ok(Step::Discard(wanted_page(geometry, fields.number)?)),
         Op::Write => parse_write(alloc, geometry, fields),
         Op::Tick => Ok(Step::Tick(wanted_number(fields.number)?)),
         Op::Log => Ok(Step::Log(Lsn::new(wanted_number(fields.number)?))),

@@ -1,4 +1,4 @@
-//! The six lines of the totals of a report.
+//! The seven lines of the totals of a report.
 ghost use Rattle.std.specs.Prelude.{OnOk};
 ghost use Rattle.std.specs.Io.KnownBytes.{Appends};
 ghost use Rattle.bp_trace.specs.Totals.{total_line, totals_text};
@@ -17,7 +17,8 @@ pub(crate) fn write_totals<W: Write>(totals: &Totals, writer: &mut W) -> io::Res
     write_total("evictions", totals.evictions, writer)?;
     write_total("writes", totals.writes, writer)?;
     write_total("failed", totals.failed, writer)?;
-    write_total("refused", totals.refused, writer)
+    write_total("refused", totals.refused, writer)?;
+    write_total("discards", totals.discards, writer)
 }
 
 #[tactic(auto, unfolding(crate::specs::Totals::total_line))]

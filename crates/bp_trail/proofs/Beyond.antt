@@ -1,17 +1,17 @@
 -- What was done with a page beyond the end of the log, since it was last read, is no matter: no image of it went out since.
 use Rattle.std.proofs.Common.{◌≡◌, inl, inr, refl, sym, ap, subst, ◌∙◌, ℕ, max, ◌≤◌, nat_lt, nat_le, Bool, true, false, not, ◌&&◌, ◌||◌, ◌==◌, if◌then◌else◌, cond, List, [], ◌∷◌, ◌++◌, unwrap_or, Some, None, arith}
-use Rattle.std.proofs.lemmas.Bool.{eqb-true, eq-eqb, and_parts, or_parts, ltb-true, lt-leb, false_from_ne_true}
+use Rattle.std.proofs.lemmas.Bool.{eqb-true, eq-eqb, and_parts, or_parts, ltb-true, lt-leb, false_from_ne_true, true≢false}
 use Rattle.bp_trail.specs.declared.entries.Entry.{Entry}
 use Rattle.bp_trail.specs.declared.entries.Reply.{Reply}
-use Rattle.bp_trail.specs.declared.entries.Reply.TheVariants.{WriteFirst}
+use Rattle.bp_trail.specs.declared.entries.Reply.TheVariants.{WriteFirst, Fixed}
 use Rattle.bp_trail.specs.declared.records.LogRecord.{LogRecord}
 use Rattle.bp_trail.specs.Parameters.{Parameters}
-use Rattle.bp_trail.specs.Lists.{some, every, since, least_since}
-use Rattle.bp_trail.specs.Event.{loads, writes, lsn_of, lsn_written, begins_of}
+use Rattle.bp_trail.specs.Lists.{some, every, after_last, since, least_since}
+use Rattle.bp_trail.specs.Event.{discards, loads, writes, lsn_of, lsn_written, begins_of}
 use Rattle.bp_trail.specs.Trail.{Trail}
 use Rattle.bp_trail.specs.Clock.{durable}
-use Rattle.bp_trail.specs.Saved.{began_saving, unsaved}
-use Rattle.bp_trail.specs.Images.{plain_map}
+use Rattle.bp_trail.specs.Saved.{began_saving, settles, unsaved}
+use Rattle.bp_trail.specs.Images.{written_into}
 use Rattle.bp_trail.specs.Legal.{IsLawful, Legal}
 use Rattle.bp_trail.specs.Recovery.{records, within, records_from, NeverFall, put, redo, WentOut, MayHave, GaveBack, ReadBeyond, LogHas, IsRedoPoint}
 use Rattle.bp_trail.proofs.Lists.{greatest-with, some-append, some-mono}
@@ -19,7 +19,7 @@ use Rattle.bp_trail.proofs.Events.{event-of}
 use Rattle.bp_trail.proofs.Places.{places, unsaved-ended}
 use Rattle.bp_trail.proofs.WriteAhead.{written_lsn, write_ahead}
 use Rattle.bp_trail.proofs.Logged.{each_before}
-use Rattle.bp_trail.proofs.Recovered.{plain-put, records-skip, records-append, AtLeast, least-parts, durable-grows}
+use Rattle.bp_trail.proofs.Recovered.{written-put, after_last-front, none-settled, records-skip, records-append, AtLeast, least-parts, durable-grows}
 use Rattle.bp_trail.proofs.UsedAgain.{which-newer}
 use Rattle.bp_trail.proofs.Redoing.{recovers-plain}
 use Rattle.bp_trail.proofs.Stamped.{begin-unsaved, load-away, write-no_load}
@@ -29,11 +29,18 @@ use Rattle.bp_trail.proofs.Stamped.{begin-unsaved, load-away, write-no_load}
 read-no_write : (c : Parameters) (e : Entry) (past : Trail) (p : ℕ) → Legal c (e ∷ past) → loads p e ≡ true → writes p e ≡ false
 read-no_write c e past p l h = false_from_ne_true (writes p e) (λ w. (let n = write-no_load c past e.client e.call e.reply (event-of c past e l.here) p w in cc))
 
+read-kept : (c : Parameters) (e : Entry) (past : Trail) (p : ℕ) → Legal c (e ∷ past) → loads p e ≡ true → discards p e ≡ false
+read-kept c e past p l h = go e.reply h
+  where
+    go : (r : Reply) → loads p (record { client = e.client; call = e.call; reply = r }) ≡ true → discards p (record { client = e.client; call = e.call; reply = r }) ≡ false
+    go (Fixed n) h = refl
+    go _ h = absurd (true≢false (sym h))
+
 -- a page that was just read is saved
 read-saved : (c : Parameters) (e : Entry) (past : Trail) (p : ℕ) → Legal c (e ∷ past) → loads p e ≡ true → unsaved (e ∷ past) p ≡ false
 read-saved c e past p l h = false_from_ne_true (unsaved (e ∷ past) p) (λ u.
     (let v = rw (read-no_write c e past p l h) at u in
-    let s = unsaved-ended past e p (and_parts (not (began_saving (e ∷ past) p e.reply)) _ v).1 in
+    let s = unsaved-ended past e p (and_parts (not (settles (e ∷ past) p e)) _ v).1 in
     let here = (places c past l.before).dirty p s in
     let away = load-away c past e.client e.call e.reply l.before (event-of c past e l.here) p h in
     cc))
@@ -43,9 +50,9 @@ unsaved-since : (p : ℕ) (l rest : Trail) → unsaved rest p ≡ false → unsa
 unsaved-since p [] rest s u = cc
 unsaved-since p (e ∷ l) rest s u = go (writes p e) u (unsaved-since p l rest s)
   where
-    go : (b : Bool) → (b || (not (began_saving (e ∷ l ++ rest) p e.reply) && since (writes p) (λ d. began_saving (e ∷ l ++ rest) p d.reply) (l ++ rest))) ≡ true → (unsaved (l ++ rest) p ≡ true → some (writes p) l ≡ true) → (b || some (writes p) l) ≡ true
+    go : (b : Bool) → (b || (not (settles (e ∷ l ++ rest) p e) && since (writes p) (settles (e ∷ l ++ rest) p) (l ++ rest))) ≡ true → (unsaved (l ++ rest) p ≡ true → some (writes p) l ≡ true) → (b || some (writes p) l) ≡ true
     go true u ih = refl
-    go false u ih = ih (unsaved-ended (l ++ rest) e p (and_parts (not (began_saving (e ∷ l ++ rest) p e.reply)) _ u).1)
+    go false u ih = ih (unsaved-ended (l ++ rest) e p (and_parts (not (settles (e ∷ l ++ rest) p e)) _ u).1)
 
 abbrev is_beyond : ℕ → ℕ → Entry → Bool
 is_beyond end p e = not (writes p e) || nat_lt end (lsn_of e.call)
@@ -68,22 +75,28 @@ none-logged end p (e ∷ l) rest le h =
         absurd (omega arith)
     go false w k ih = let m = more in ih (omega arith) (and_parts (is_beyond end p e) _ h).1
 
-none-begun : (c : Parameters) (end p : ℕ) (l rest : Trail) → Legal c (l ++ rest) → unsaved rest p ≡ false → durable (l ++ rest) ≤ end → every (is_beyond end p) l ≡ true → some (λ d. begins_of p d.reply) l ≡ false
-none-begun c end p [] rest legal s le h = refl
-none-begun c end p (e ∷ l) rest legal s le h =
+none-begun : (c : Parameters) (end p : ℕ) (l rest : Trail) → Legal c (l ++ rest) → some (discards p) l ≡ false → unsaved rest p ≡ false → durable (l ++ rest) ≤ end → every (is_beyond end p) l ≡ true → some (λ d. begins_of p d.reply) l ≡ false
+none-begun c end p [] rest legal n s le h = refl
+none-begun c end p (e ∷ l) rest legal n s le h =
     let a = and_parts (is_beyond end p e) _ h in
     let g = durable-grows (e ∷ []) (l ++ rest) in
     let older : durable (l ++ rest) ≤ end = omega arith in
     let here : begins_of p e.reply ≡ false = false_from_ne_true (begins_of p e.reply) (go e.reply refl a.1 older) in
-    rw here (none-begun c end p l rest legal.before s older a.1)
+    rw here (none-begun c end p l rest legal.before kept s older a.1)
   where
+    kept : some (discards p) l ≡ false
+    kept = (or_parts (discards p e) (some (discards p) l) n).1
+
+    recent : Trail
+    recent = after_last (discards p) rest
+
     go : (r : Reply) → e.reply ≡ r → every (is_beyond end p) l ≡ true → durable (l ++ rest) ≤ end → begins_of p r ≡ true → ⊥
     go (WriteFirst t q image) is k older b =
         let reply : e.reply ≡ WriteFirst t p image = is ∙ ap (λ n. WriteFirst t n image) (eqb-true q p b) in
-        let ahead = write_ahead c (l ++ rest) e t p image legal reply in
+        let ahead : written_lsn p (l ++ recent) ≤ durable (l ++ rest) = subst (λ s. written_lsn p s ≤ durable (l ++ rest)) (after_last-front (discards p) l rest kept) (write_ahead c (l ++ rest) e t p image legal reply) in
         let dirty = begin-unsaved c (l ++ rest) e.client e.call e.reply (event-of c (l ++ rest) e legal.here) p (subst (λ x. begins_of p x ≡ true) (sym is) b) in
         let wrote = unsaved-since p l rest s dirty in
-        let none = none-logged end p l rest (omega arith) k in
+        let none = none-logged end p l recent (omega arith) k in
         cc
     go _ is k older b = cc
 
@@ -128,7 +141,7 @@ module _ (c : Parameters) (synced past : Trail) (end p : ℕ) (legal : Legal c p
   stop d = began_saving synced p d.reply
 
   begun : some (λ d. begins_of p d.reply) r.later ≡ false
-  begun = none-begun c end p r.later (r.read ∷ r.earlier) there (read-saved c r.read r.earlier p read_legal r.reads_it) (subst (λ s. durable s ≤ end) r.stands mark) r.beyond
+  begun = none-begun c end p r.later (r.read ∷ r.earlier) there r.kept (read-saved c r.read r.earlier p read_legal r.reads_it) (subst (λ s. durable s ≤ end) r.stands mark) r.beyond
 
   read_stop : begins_of p r.read.reply ≡ false
   read_stop = go r.read.reply refl
@@ -147,14 +160,14 @@ module _ (c : Parameters) (synced past : Trail) (end p : ℕ) (legal : Legal c p
       ∙ ap (λ rs. rs ++ records p (within end (r.read ∷ r.earlier))) (records-beyond end p r.later r.beyond)
       ∙ records-skip p end r.read r.earlier (read-no_write c r.read r.earlier p read_legal r.reads_it)
 
-  pub same-plain : (first : ℕ → List ℕ) → plain_map first (within end past) p ≡ plain_map first (within end r.earlier) p
-  same-plain first = plain-put first p (within end past) ∙ ap (λ rs. put rs (first p)) same-records ∙ sym (plain-put first p (within end r.earlier))
+  pub same-plain : (first : ℕ → List ℕ) → written_into first (within end past) p ≡ written_into first (within end r.earlier) p
+  same-plain first = written-put first p (within end past) ∙ ap (λ rs. put rs (first p)) same-records ∙ sym (written-put first p (within end r.earlier))
 
   pub same-point : (from : ℕ) → IsRedoPoint from synced past p → IsRedoPoint from synced r.earlier p
   same-point from point =
-      let whole : AtLeast from (least_since (lsn_written p) stop (r.later ++ r.read ∷ r.earlier)) = subst (λ s. AtLeast from (least_since (lsn_written p) stop s)) r.stands point in
-      let since_read = least-rest from p stop r.later (r.read ∷ r.earlier) (none-saved synced p r.later begun) whole in
-      least-rest from p stop (r.read ∷ []) r.earlier read_saves since_read
+      let whole : AtLeast from (least_since (lsn_written p) (settles synced p) (r.later ++ r.read ∷ r.earlier)) = subst (λ s. AtLeast from (least_since (lsn_written p) (settles synced p) s)) r.stands point in
+      let since_read = least-rest from p (settles synced p) r.later (r.read ∷ r.earlier) (none-settled synced p r.later r.kept (none-saved synced p r.later begun)) whole in
+      least-rest from p (settles synced p) (r.read ∷ []) r.earlier (none-settled synced p (r.read ∷ []) (rw (read-kept c r.read r.earlier p read_legal r.reads_it) refl) read_saves) since_read
 
   pub same-mark : durable r.earlier ≤ end
   same-mark =
@@ -186,7 +199,7 @@ module _ (c : Parameters) (synced past : Trail) (end p : ℕ) (legal : Legal c p
 
 pub recovers-unlogged : (c : Parameters) (first : ℕ → List ℕ) (synced past : Trail) (log : List LogRecord) (start from end p : ℕ) (image : List ℕ)
     → Legal c past → durable past ≤ end → (r : ReadBeyond end past p) → GaveBack c.size first end r.earlier p → (h : LogHas log start from end past p) → start ≤ from → IsRedoPoint from synced past p
-    → NeverFall (records_from start log p) → MayHave first synced past p image → redo from log p image ≡ put h.unwritten (plain_map first (within end past) p)
+    → NeverFall (records_from start log p) → MayHave first synced past p image → redo from log p image ≡ put h.unwritten (written_into first (within end past) p)
 recovers-unlogged c first synced past log start from end p image legal mark r gave_back h le point rises may =
     recovers-plain c first synced r.earlier log start from end p image
     (record {

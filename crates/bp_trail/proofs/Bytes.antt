@@ -140,3 +140,7 @@ put-again from log x f n =
 pub put-append : (newer older : List LogRecord) (x : List ℕ) → put (newer ++ older) x ≡ put newer (put older x)
 put-append [] older x = refl
 put-append (r ∷ newer) older x = ap (patched r.offset r.bytes) (put-append newer older x)
+
+-- where all bytes of the page are in one record, nothing of the image is left
+pub full-bytes : (full : LogRecord) (older : List LogRecord) (size : ℕ) (x : List ℕ) → full.offset ≡ 0 → length full.bytes ≡ size → AllFit size older → length x ≡ size → put (full ∷ older) x ≡ full.bytes
+full-bytes full older size x z long fit is = patched-whole full.offset full.bytes (put older x) z (long ∙ sym (length-put size older x fit is))

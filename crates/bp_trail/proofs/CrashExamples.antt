@@ -1,13 +1,14 @@
 -- Crashes from which redo recovers the page, and for each premise a crash from which it does not without it. All of it computes.
-use Rattle.std.proofs.Common.{◌≡◌, inl, inr, refl, sym, ap, ◌∙◌, ℕ, ◌+◌, ◌≤◌, nat_lt, true, false, ◌==◌, if◌then◌else◌, List, [], ◌∷◌, ◌++◌, get_or, Some, None, arith}
+use Rattle.std.proofs.Common.{◌≡◌, inl, inr, refl, sym, ap, ◌∙◌, ℕ, ◌+◌, ◌≤◌, nat_lt, true, false, ◌==◌, if◌then◌else◌, List, [], ◌∷◌, ◌++◌, length, get_or, Some, None, arith}
 use Rattle.std.proofs.lemmas.Option.{none-some}
 use Rattle.std.proofs.lemmas.Bool.{or_parts}
 use Rattle.bp_trail.specs.declared.entries.Entry.{Entry}
-use Rattle.bp_trail.specs.declared.entries.Call.TheVariants.{Mark, Fix, ReadEnd, WriteEnd, Write, Flush}
-use Rattle.bp_trail.specs.declared.entries.Reply.TheVariants.{Done, Load, WriteFirst, Fixed, Cleaned}
+use Rattle.bp_trail.specs.declared.entries.Call.TheVariants.{Mark, Fix, ReadEnd, WriteEnd, Write, Unfix, Flush, Discard}
+use Rattle.bp_trail.specs.declared.entries.Reply.TheVariants.{Done, Load, WriteFirst, Fixed, Cleaned, Discarded}
 use Rattle.bp_trail.specs.declared.records.LogRecord.{LogRecord}
 use Rattle.bp_trail.specs.Parameters.{Parameters}
 use Rattle.bp_trail.specs.Lists.{some, every}
+use Rattle.bp_trail.specs.Event.{discards}
 use Rattle.bp_trail.specs.Trail.{Trail}
 use Rattle.bp_trail.specs.Clock.{durable}
 use Rattle.bp_trail.specs.Places.{resident}
@@ -18,7 +19,7 @@ use Rattle.bp_trail.specs.Device.{HonestOf}
 use Rattle.bp_trail.specs.Recovery.GaveBack.{from_opening, since_used_again}
 use Rattle.bp_trail.specs.Pieces.{by}
 use Rattle.bp_trail.specs.Standing.{Content}
-use Rattle.bp_trail.specs.Recovery.{records, records_from, within, NeverFall, Rise, patch, redo, redo_by_lsn, AppliesAlike, apply_all, redo_point, NoneSafe, MayHave, MayHaveStamped, IsRedoPoint, UsedAgain, ReadBeyond, LogHas, Stopped}
+use Rattle.bp_trail.specs.Recovery.{record_of, records, records_from, within, NeverFall, Rise, patch, redo, redo_by_lsn, AppliesAlike, apply_all, redo_point, NoneSafe, MayHave, MayHaveStamped, IsRedoPoint, UsedAgain, ReadBeyond, LogHas, Stopped}
 
 -- one frame, and a file of one page of two bytes
 abbrev pub c : Parameters
@@ -107,7 +108,7 @@ second_record = told 1 8 2
 recovered-stopped : Stopped c zeros written_twice written_twice (second_record ∷ first_record ∷ []) 0 2 2 0
 recovered-stopped = record {
   legal = lawful-twice;
-  gave_back = from_opening honest-twice;
+  gave_back = from_opening honest-twice refl;
   mark = omega arith;
   has = record { unwritten = []; stands = refl; unwritten_from = refl };
   from_start = omega arith;
@@ -148,7 +149,7 @@ unsynced-has = inr (refl, refl)
 unsynced-stopped : Stopped c zeros marked_once saved_once (first_record ∷ []) 0 1 1 0
 unsynced-stopped = record {
   legal = lawful-saved;
-  gave_back = from_opening honest-saved;
+  gave_back = from_opening honest-saved refl;
   mark = omega arith;
   has = record { unwritten = []; stands = refl; unwritten_from = refl };
   from_start = omega arith;
@@ -290,7 +291,7 @@ without-point = (lawful-once, honest-once, omega arith, record { unwritten = [];
 without-has_it : Stopped c zeros saved_once saved_once (first_record ∷ []) 0 2 1 0
     × (redo 2 (first_record ∷ []) 0 (0 ∷ 0 ∷ []) ≡ redo 0 (first_record ∷ []) 0 (0 ∷ 0 ∷ []) → ⊥)
 without-has_it = (
-  record { legal = lawful-saved; gave_back = from_opening honest-saved; mark = omega arith; has = record { unwritten = []; stands = refl; unwritten_from = refl }; from_start = omega arith; point = λ least e. absurd (none-some least e) },
+  record { legal = lawful-saved; gave_back = from_opening honest-saved refl; mark = omega arith; has = record { unwritten = []; stands = refl; unwritten_from = refl }; from_start = omega arith; point = λ least e. absurd (none-some least e) },
   differ 0 _ _ (λ e. absurd (omega arith)),
 )
 
@@ -327,7 +328,7 @@ without-never_fall = (
         here = λ i image h d. cc;
         before = record { here = λ i image h d. cc; before = record { here = λ i image h d. cc; before = record { here = λ i image h d. cc; before = honest-opened } } };
       };
-    });
+    }) refl;
     mark = omega arith;
     has = record { unwritten = []; stands = refl; unwritten_from = refl };
     from_start = omega arith;
@@ -352,7 +353,7 @@ without-rise : Stopped c zeros written_meanwhile written_meanwhile (told 0 8 1 �
 without-rise = (
   record {
     legal = record { here = record { client = refl; allowed = refl; reply = inl refl }; before = lawful-going };
-    gave_back = from_opening (record { here = λ i image h d. cc; before = honest-going });
+    gave_back = from_opening (record { here = λ i image h d. cc; before = honest-going }) refl;
     mark = omega arith;
     has = record { unwritten = []; stands = refl; unwritten_from = refl };
     from_start = omega arith;
@@ -371,7 +372,7 @@ without-first_below : Rise (records_from 0 (first_record ∷ []) 0) × Stopped c
     × ((redo_by_lsn patch 0 (first_record ∷ []) 0 (record { image = 0 ∷ 0 ∷ []; page_lsn = 5 })).image ≡ redo 0 (first_record ∷ []) 0 (0 ∷ 0 ∷ []) → ⊥)
 without-first_below = (
   record { here = refl; before = tt },
-  record { legal = lawful-once; gave_back = from_opening honest-once; mark = omega arith; has = record { unwritten = []; stands = refl; unwritten_from = refl }; from_start = omega arith; point = λ least e. omega arith },
+  record { legal = lawful-once; gave_back = from_opening honest-once refl; mark = omega arith; has = record { unwritten = []; stands = refl; unwritten_from = refl }; from_start = omega arith; point = λ least e. omega arith },
   inr (refl, refl),
   differ 0 _ _ (λ e. absurd (omega arith)),
 )
@@ -423,6 +424,7 @@ again = record {
   opening = refl;
   logged = omega arith;
   honest = record { here = λ i image h d. cc; before = tt };
+  kept = refl;
 }
 
 pub again-stopped : Stopped c old used_again used_again (records 0 used_again) 0 2 3 0
@@ -449,7 +451,7 @@ again-held = refl
 
 -- where the log ends before that record, the page is as it was before
 again-unlogged : ReadBeyond 1 (whole_write ∷ opened) 0
-again-unlogged = record { later = whole_write ∷ []; read = by 0 (ReadEnd 0 0 (Some (0 ∷ 0 ∷ []))) (Fixed 0); earlier = by 0 (Fix 0) (Load 0 None) ∷ []; stands = refl; reads_it = refl; beyond = refl }
+again-unlogged = record { later = whole_write ∷ []; read = by 0 (ReadEnd 0 0 (Some (0 ∷ 0 ∷ []))) (Fixed 0); earlier = by 0 (Fix 0) (Load 0 None) ∷ []; stands = refl; reads_it = refl; beyond = refl; kept = refl }
 
 again-before : plain_map old (within 1 (whole_write ∷ opened)) 0 ≡ 7 ∷ 0 ∷ []
 again-before = refl
@@ -458,6 +460,89 @@ again-before = refl
 without-whole : Legal c (put_at 1 8 2 ∷ opened) × MayHave old (put_at 1 8 2 ∷ opened) (put_at 1 8 2 ∷ opened) 0 (7 ∷ 0 ∷ []) × IsRedoPoint 2 (put_at 1 8 2 ∷ opened) (put_at 1 8 2 ∷ opened) 0
     × (held (put_at 1 8 2 ∷ opened) 0 ≡ 0 ∷ 8 ∷ []) × (redo 2 (second_record ∷ []) 0 (7 ∷ 0 ∷ []) ≡ 7 ∷ 8 ∷ [])
 without-whole = (record { here = record { client = refl; allowed = refl; reply = inl refl }; before = lawful-opened }, inr (refl, refl), λ least e. (let is : 2 ≡ least = cc in omega arith), refl, refl)
+
+-- kept: a page is discarded, and the log still has its write. No write is left to save, so redo may begin after it, and the whole log makes another page
+abbrev discarded_since : Trail
+discarded_since = by 0 (Discard 0) Discarded ∷ by 0 (Unfix 0 0) Done ∷ written_once
+
+lawful-discarded : Legal c discarded_since
+lawful-discarded = record { here = record { client = refl; allowed = refl; reply = inl refl }; before = record { here = record { client = refl; allowed = refl; reply = inl refl }; before = lawful-once } }
+
+without-kept : Legal c discarded_since × HonestOf zeros 0 discarded_since × (some (discards 0) discarded_since ≡ true) × LogHas (first_record ∷ []) 0 2 1 discarded_since 0 × IsRedoPoint 2 discarded_since discarded_since 0
+    × MayHave zeros discarded_since discarded_since 0 (0 ∷ 0 ∷ []) × (plain_map zeros discarded_since 0 ≡ 0 ∷ 0 ∷ []) × (redo 2 (first_record ∷ []) 0 (0 ∷ 0 ∷ []) ≡ redo 0 (first_record ∷ []) 0 (0 ∷ 0 ∷ []) → ⊥)
+without-kept = (
+  lawful-discarded,
+  record { here = λ i image h d. cc; before = record { here = λ i image h d. cc; before = honest-once } },
+  refl,
+  record { unwritten = []; stands = refl; unwritten_from = refl },
+  λ least e. absurd (none-some least e),
+  inr (refl, refl),
+  refl,
+  differ 0 _ _ (λ e. absurd (omega arith)),
+)
+
+-- so it is where it is discarded after the write by which it was used again
+abbrev discarded_again : Trail
+discarded_again = by 0 (Discard 0) Discarded ∷ by 0 (Unfix 0 0) Done ∷ whole_write ∷ opened
+
+without-kept_again : Legal c discarded_again × (length (record_of whole_write.call).bytes ≡ 2) × (some (discards 0) discarded_again ≡ true) × LogHas (records 0 discarded_again) 0 3 2 discarded_again 0
+    × IsRedoPoint 3 discarded_again discarded_again 0 × MayHave old discarded_again discarded_again 0 (7 ∷ 0 ∷ []) × (redo 3 (records 0 discarded_again) 0 (7 ∷ 0 ∷ []) ≡ redo 0 (records 0 discarded_again) 0 (7 ∷ 0 ∷ []) → ⊥)
+without-kept_again = (
+  record {
+    here = record { client = refl; allowed = refl; reply = inl refl };
+    before = record {
+      here = record { client = refl; allowed = refl; reply = inl refl };
+      before = record { here = record { client = refl; allowed = refl; reply = inl refl }; before = lawful-opened };
+    };
+  },
+  refl,
+  refl,
+  record { unwritten = []; stands = refl; unwritten_from = refl },
+  λ least e. absurd (none-some least e),
+  inr (refl, refl),
+  differ 0 _ _ (λ e. absurd (omega arith)),
+)
+
+-- but once it is used again after the discard, redo recovers it, though the log has the write that was dropped
+abbrev used_after : Trail
+used_after = by 0 (Write 1 0 0 (3 ∷ 4 ∷ []) 2) Done ∷ by 0 (ReadEnd 1 0 (Some (0 ∷ 0 ∷ []))) (Fixed 1) ∷ by 0 (Fix 0) (Load 1 None) ∷ discarded_since
+
+used_after-stopped : Stopped c zeros used_after used_after (records 0 used_after) 0 2 2 0
+used_after-stopped = record {
+  legal = record {
+    here = record { client = refl; allowed = refl; reply = inl refl };
+    before = record {
+      here = record { client = refl; allowed = refl; reply = inl refl };
+      before = record { here = record { client = refl; allowed = refl; reply = inl refl }; before = lawful-discarded };
+    };
+  };
+  gave_back = since_used_again (record {
+    later = [];
+    entry = by 0 (Write 1 0 0 (3 ∷ 4 ∷ []) 2) Done;
+    earlier = by 0 (ReadEnd 1 0 (Some (0 ∷ 0 ∷ []))) (Fixed 1) ∷ by 0 (Fix 0) (Load 1 None) ∷ discarded_since;
+    stands = refl;
+    writes_it = refl;
+    offset = refl;
+    bytes = refl;
+    opening = refl;
+    logged = omega arith;
+    honest = tt;
+    kept = refl;
+  });
+  mark = omega arith;
+  has = record { unwritten = []; stands = refl; unwritten_from = refl };
+  from_start = omega arith;
+  point = λ least e. (let is : 2 ≡ least = cc in omega arith);
+}
+
+used_after-has : records 0 used_after ≡ record { page = 0; offset = 0; bytes = 3 ∷ 4 ∷ []; lsn = 2 } ∷ first_record ∷ []
+used_after-has = refl
+
+used_after-redone : redo 2 (records 0 used_after) 0 (0 ∷ 0 ∷ []) ≡ 3 ∷ 4 ∷ []
+used_after-redone = refl
+
+used_after-is_plain : plain_map zeros used_after 0 ≡ 3 ∷ 4 ∷ []
+used_after-is_plain = refl
 
 -- ---- a checkpoint, and redo that is interrupted
 

@@ -4,27 +4,27 @@ use Rattle.std.proofs.lemmas.List.{take-append-drop, reverse-append}
 use Rattle.std.proofs.Math.Seq.{drop-cons}
 use Rattle.std.proofs.lemmas.List.Elements.{filter-append}
 use Rattle.std.proofs.lemmas.Option.{none-some}
-use Rattle.std.proofs.lemmas.Bool.{eqb-true, or_parts, and_from, leb-true, le-leb}
+use Rattle.std.proofs.lemmas.Bool.{eqb-true, and_from, or_parts, leb-true, le-leb}
 use Rattle.bp_trail.specs.declared.entries.Entry.{Entry}
 use Rattle.bp_trail.specs.declared.entries.Reply.{Reply}
 use Rattle.bp_trail.specs.declared.entries.Reply.TheVariants.{WriteFirst}
 use Rattle.bp_trail.specs.declared.records.LogRecord.{LogRecord}
 use Rattle.bp_trail.specs.Parameters.{Parameters}
 use Rattle.bp_trail.specs.Lists.{some, every, or_less, least_since}
-use Rattle.bp_trail.specs.Event.{lsn_of, lsn_written, begins_of, ends_well}
+use Rattle.bp_trail.specs.Event.{discards, lsn_of, lsn_written, begins_of, ends_well}
 use Rattle.bp_trail.specs.Trail.{Trail}
 use Rattle.bp_trail.specs.Clock.{durable}
-use Rattle.bp_trail.specs.Saved.{began_saving, first_lsn, IsRedoFrom}
+use Rattle.bp_trail.specs.Saved.{began_saving, settles, first_lsn, IsRedoFrom}
 use Rattle.bp_trail.specs.Legal.{Legal}
 use Rattle.bp_trail.specs.Standing.{Content}
 use Rattle.bp_trail.specs.Device.{HonestOf}
 use Rattle.bp_trail.specs.Recovery.{wanted, records, within, records_from, NeverFall, AllFit, FirstMisfit, HasFullImage, put, redo, WentOut, NoneSafe, MayHave, MayHaveStamped, AppliesAlike, apply_all, MakesAnew, Recovers, GaveBack, IsRedoPoint, LogHas, Stopped, redo_point, WritesFrom}
 use Rattle.bp_trail.specs.Recovery.GaveBack.{from_opening, since_used_again}
 use Rattle.bp_trail.specs.Places.{resident}
-use Rattle.bp_trail.specs.Images.{held, plain_map}
+use Rattle.bp_trail.specs.Images.{held, written_into}
 use Rattle.bp_trail.proofs.Elements.{contains-here, contains-later, contains-cases, contains-none}
 use Rattle.bp_trail.proofs.Content.{held-plain}
-use Rattle.bp_trail.proofs.Bytes.{length-put, patched-whole, fit-parts, from_lsn, ordered-zero, put-again, put-append}
+use Rattle.bp_trail.proofs.Bytes.{length-put, full-bytes, fit-parts, from_lsn, ordered-zero, put-again, put-append}
 use Rattle.bp_trail.proofs.Recovered.{filter-every, refilter, AtLeast, plain-put, legal-there}
 use Rattle.bp_trail.proofs.UsedAgain.{sent-sized}
 use Rattle.bp_trail.proofs.Redoing.{has-records, redo-plain, recovers, recovers-plain}
@@ -48,12 +48,12 @@ point-next (Some a) next = omega arith
 pub checkpoint : (synced late : Trail) (o : Option ℕ) (next p : ℕ) → IsRedoFrom synced o → WritesFrom next p late → IsRedoPoint (redo_point o next) synced (late ++ synced) p
 checkpoint synced [] o next p redo_from from = asked synced o next p redo_from
 checkpoint synced (e ∷ late) o next p redo_from from =
-    least-from (redo_point o next) (lsn_written p e) (if began_saving synced p e.reply then None else least_since (lsn_written p) (λ d. began_saving synced p d.reply) (late ++ synced))
+    least-from (redo_point o next) (lsn_written p e) (if settles synced p e then None else least_since (lsn_written p) (settles synced p) (late ++ synced))
     (λ lsn is. (let a = from.here lsn is in let b = point-next o next in omega arith))
-    (go (began_saving synced p e.reply) (checkpoint synced late o next p redo_from from.before))
+    (go (settles synced p e) (checkpoint synced late o next p redo_from from.before))
   where
-    go : (b : Bool) → AtLeast (redo_point o next) (least_since (lsn_written p) (λ d. began_saving synced p d.reply) (late ++ synced))
-        → AtLeast (redo_point o next) (if b then None else least_since (lsn_written p) (λ d. began_saving synced p d.reply) (late ++ synced))
+    go : (b : Bool) → AtLeast (redo_point o next) (least_since (lsn_written p) (settles synced p) (late ++ synced))
+        → AtLeast (redo_point o next) (if b then None else least_since (lsn_written p) (settles synced p) (late ++ synced))
     go true h = λ n e. cc
     go false h = h
 
@@ -135,9 +135,6 @@ redo-cut_off newer older from p image fit =
 -- ---- pages that are torn
 
 -- where all bytes of the page are in one record, redo reads nothing of the image
-pub full-bytes : (full : LogRecord) (older : List LogRecord) (size : ℕ) (x : List ℕ) → full.offset ≡ 0 → length full.bytes ≡ size → AllFit size older → length x ≡ size → put (full ∷ older) x ≡ full.bytes
-full-bytes full older size x z long fit is = patched-whole full.offset full.bytes (put older x) z (long ∙ sym (length-put size older x fit is))
-
 pub redo-whole : (log : List LogRecord) (from p : ℕ) (a b : List ℕ) → HasFullImage (length a) (records_from from log p) → length b ≡ length a → redo from log p a ≡ redo from log p b
 redo-whole log from p a b w same =
     let at : (x : List ℕ) → length x ≡ length a → redo from log p x ≡ put w.newer w.full.bytes =
@@ -167,8 +164,8 @@ some-out synced p (e ∷ past) = go e.reply refl (some-out synced p past)
 
 pub image-length : (c : Parameters) (first : ℕ → List ℕ) (synced : Trail) (end : ℕ) (past : Trail) (p : ℕ) (image : List ℕ) → Legal c past → GaveBack c.size first end past p → MayHave first synced past p image
     → length image ≡ length (first p)
-image-length c first synced end past p image l (from_opening honest) (inl (out, is)) =
-    let h = has-records c first synced past p out l honest in
+image-length c first synced end past p image l (from_opening honest kept) (inl (out, is)) =
+    let h = has-records c first synced past p out l honest kept in
     ap length (is ∙ h.image_is) ∙ length-put (length (first p)) (records p out.earlier) (first p) h.fit refl
 image-length c first synced end past p image l (since_used_again u) (inl (out, is)) =
     ap length is
@@ -195,11 +192,11 @@ recovers-torn c first synced past log start from end p torn s rises w long = go 
 -- a page to which a second run wrote what redo wants, and newer writes, has what the log of the first run tells, and these
 pub seen-again : (c d : Parameters) (first second : ℕ → List ℕ) (synced past again : Trail) (log newer : List LogRecord) (start from end p : ℕ)
     → (s : Stopped c first synced past log start from end p) → NeverFall (records_from start log p) → MayHave first synced past p (second p)
-    → Legal d again → HonestOf second p again → records p again ≡ newer ++ records_from from log p → resident again p ≡ true
-    → held again p ≡ put newer (put s.has.unwritten (plain_map first (within end past) p))
-seen-again c d first second synced past again log newer start from end p s rises may l h told there =
+    → Legal d again → HonestOf second p again → some (discards p) again ≡ false → records p again ≡ newer ++ records_from from log p → resident again p ≡ true
+    → held again p ≡ put newer (put s.has.unwritten (written_into first (within end past) p))
+seen-again c d first second synced past again log newer start from end p s rises may l h n told there =
     held-plain d second again p l h there
-    ∙ plain-put second p again
+    ∙ plain-put d second p again l n
     ∙ ap (λ rs. put rs (second p)) told
     ∙ put-append newer (records_from from log p) (second p)
     ∙ ap (put newer) (recovers-plain c first synced past log start from end p (second p) s rises may)
@@ -272,7 +269,7 @@ applied-anew apply (r ∷ newer) older rest full first image alike anew = ap (ap
 
 pub redo-alone : (apply : LogRecord → List ℕ → List ℕ) (first : ℕ → List ℕ) (past : Trail) (log : List LogRecord) (start from end p : ℕ) (image : List ℕ)
     → (h : LogHas log start from end past p) → AppliesAlike apply (records_from start log p) (first p) → MakesAnew apply log start from p (first p) image
-    → apply_all apply (records_from from log p) image ≡ put h.unwritten (plain_map first (within end past) p)
+    → apply_all apply (records_from from log p) image ≡ put h.unwritten (written_into first (within end past) p)
 redo-alone apply first past log start from end p image h alike w =
     ap (λ rs. apply_all apply rs image) w.needed
     ∙ applied-anew apply w.newer w.older w.rest w.full (first p) image (subst (λ rs. AppliesAlike apply rs (first p)) w.all alike) w.anew
@@ -285,7 +282,7 @@ pub checkpoint-recovers : (c : Parameters) (first : ℕ → List ℕ) (synced la
     → Legal c (late ++ synced) → GaveBack c.size first end (late ++ synced) p → durable (late ++ synced) ≤ end
     → (h : LogHas log start (redo_point least next) end (late ++ synced) p) → start ≤ redo_point least next → NeverFall (records_from start log p)
     → IsRedoFrom synced least → WritesFrom next p late → MayHave first synced (late ++ synced) p image
-    → redo (redo_point least next) log p image ≡ put h.unwritten (plain_map first (within end (late ++ synced)) p)
+    → redo (redo_point least next) log p image ≡ put h.unwritten (written_into first (within end (late ++ synced)) p)
 checkpoint-recovers c first synced late log least start next end p image l g mark h le rises redo_from from may =
     recovers-plain c first synced (late ++ synced) log start (redo_point least next) end p image
     (record { legal = l; gave_back = g; mark = mark; has = h; from_start = le; point = checkpoint synced late least next p redo_from from })

@@ -1,22 +1,22 @@
 -- The forms that a lawful entry has, with what each says of the trail before it.
-use Rattle.std.proofs.Common.{◌≡◌, refl, sym, subst, inl, inr, ℕ, ◌≤◌, nat_lt, Bool, true, false, not, if◌then◌else◌, List, Option, Some, None}
-use Rattle.std.proofs.lemmas.Bool.{and_parts, ltb-false}
+use Rattle.std.proofs.Common.{◌≡◌, refl, sym, subst, inl, inr, ℕ, ◌≤◌, nat_lt, Bool, true, false, not, ◌==◌, if◌then◌else◌, List, Option, Some, None}
+use Rattle.std.proofs.lemmas.Bool.{and_parts, eqb-true, ltb-false}
 use Rattle.bp_trail.specs.declared.entries.Entry.{Entry}
 use Rattle.bp_trail.specs.declared.entries.Call.{Call}
-use Rattle.bp_trail.specs.declared.entries.Call.TheVariants.{Tick, Mark, Fix, ReadEnd, WriteEnd, Read, Write, Unfix, Flush, Purge}
+use Rattle.bp_trail.specs.declared.entries.Call.TheVariants.{Tick, Mark, Fix, ReadEnd, WriteEnd, Read, Write, Unfix, Flush, Discard, Purge}
 use Rattle.bp_trail.specs.declared.entries.Reply.{Reply}
-use Rattle.bp_trail.specs.declared.entries.Reply.TheVariants.{Done, Hit, Load, WriteFirst, NoVictim, NeedLog, Busy, Fixed, ReadFailed, WrongPage, Cleaned, StillDirty, WriteFailed, Content, Clean, Absent, Forgot}
+use Rattle.bp_trail.specs.declared.entries.Reply.TheVariants.{Done, Hit, Load, WriteFirst, NoVictim, NeedLog, Busy, Fixed, ReadFailed, WrongPage, Cleaned, StillDirty, WriteFailed, Content, Clean, Absent, Discarded, Pinned, Forgot}
 use Rattle.bp_trail.specs.Parameters.{Parameters}
 use Rattle.bp_trail.specs.Event.{grant}
 use Rattle.bp_trail.specs.Trail.{Trail}
 use Rattle.bp_trail.specs.Clock.{durable}
-use Rattle.bp_trail.specs.Passes.{passes, tickets, reads_out, writes_out, passes_out}
+use Rattle.bp_trail.specs.Passes.{passes, tickets, reads_out, writes_out, passes_out, pins}
 use Rattle.bp_trail.specs.Places.{resident, loading, writing}
 use Rattle.bp_trail.specs.Saved.{unsaved, written_since, page_lsn}
 use Rattle.bp_trail.specs.Images.{held}
 use Rattle.bp_trail.specs.References.{forgotten}
 use Rattle.bp_trail.specs.Victim.{victim}
-use Rattle.bp_trail.specs.PageMap.{has_free_frame, replace_reply, fix_reply, flush_reply, write_end_reply, reply_of, MayReply}
+use Rattle.bp_trail.specs.PageMap.{has_free_frame, replace_reply, fix_reply, flush_reply, discard_reply, write_end_reply, reply_of, MayReply}
 use Rattle.bp_trail.specs.PageMap.FindsWrongPage.{another_page}
 use Rattle.bp_trail.specs.Legal.{is_out, allowed, IsLawful}
 
@@ -29,6 +29,13 @@ pub record Misses (past : Trail) (p : ℕ) : Type 0 where
 pub record MayGo (past : Trail) (p : ℕ) : Type 0 where
   pub unsaved_page : unsaved past p ≡ true
   pub logged : page_lsn past p ≤ durable past
+
+-- a page that is discarded
+pub record MayLeave (past : Trail) (p : ℕ) : Type 0 where
+  pub not_loading : loading past p ≡ false
+  pub here : resident past p ≡ true
+  pub not_writing : writing past p ≡ false
+  pub unpinned : pins past p ≡ 0
 
 pub data Event (c : Parameters) (past : Trail) (who : ℕ) : Call → Reply → Type 0 where
   ticked : (n : ℕ) → Event c past who (Tick n) Done
@@ -45,6 +52,10 @@ pub data Event (c : Parameters) (past : Trail) (who : ℕ) : Call → Reply → 
   flush_clean : (p : ℕ) → resident past p ≡ true → unsaved past p ≡ false → Event c past who (Flush p) Clean
   flush_log : (p : ℕ) → Event c past who (Flush p) (NeedLog (page_lsn past p))
   flush_write : (p : ℕ) → resident past p ≡ true → writing past p ≡ false → MayGo past p → Event c past who (Flush p) (WriteFirst (tickets past) p (held past p))
+  discard_busy : (p : ℕ) → Event c past who (Discard p) Busy
+  discard_absent : (p : ℕ) → Misses past p → Event c past who (Discard p) Absent
+  discard_pinned : (p : ℕ) → Event c past who (Discard p) Pinned
+  discarded : (p : ℕ) → MayLeave past p → Event c past who (Discard p) Discarded
   read_good : (t p : ℕ) (image : List ℕ) → is_out (grant who p t) (reads_out past) ≡ true → Event c past who (ReadEnd t p (Some image)) (Fixed (passes past))
   read_bad : (t p : ℕ) → is_out (grant who p t) (reads_out past) ≡ true → Event c past who (ReadEnd t p None) ReadFailed
   read_wrong : (t p : ℕ) → is_out (grant who p t) (reads_out past) ≡ true → Event c past who (ReadEnd t p None) WrongPage
@@ -89,6 +100,17 @@ module _ (c : Parameters) (past : Trail) (who : ℕ) where
       go false true i false j true k true h = flush_log p
       go false true i false j true k false h = flush_write p i j (record { unsaved_page = k; logged = ltb-false (durable past) (page_lsn past p) h })
 
+  dropped : (p : ℕ) → Event c past who (Discard p) (discard_reply past p)
+  dropped p = go (loading past p) refl (resident past p) refl (writing past p) refl (pins past p == 0) refl
+    where
+      go : (l : Bool) → loading past p ≡ l → (r : Bool) → resident past p ≡ r → (w : Bool) → writing past p ≡ w → (n : Bool) → (pins past p == 0) ≡ n
+          → Event c past who (Discard p) (if l then Busy else if not r then Absent else if w then Busy else if n then Discarded else Pinned)
+      go true h r i w j n k = discard_busy p
+      go false h false i w j n k = discard_absent p (record { not_loading = h; not_resident = i })
+      go false h true i true j n k = discard_busy p
+      go false h true i false j true k = discarded p (record { not_loading = h; here = i; not_writing = j; unpinned = eqb-true (pins past p) 0 k })
+      go false h true i false j false k = discard_pinned p
+
   write_ended : (t p : ℕ) → is_out (grant who p t) (writes_out past) ≡ true → Event c past who (WriteEnd t p true) (write_end_reply past t p true)
   write_ended t p o = go (written_since past t p) refl
     where
@@ -101,6 +123,7 @@ module _ (c : Parameters) (past : Trail) (who : ℕ) where
   event_of_call (Mark lsn) a = marked lsn
   event_of_call (Fix p) a = fixed p
   event_of_call (Flush p) a = flushed p
+  event_of_call (Discard p) a = dropped p
   event_of_call (ReadEnd t p None) a = read_bad t p (and_parts _ _ a).0
   event_of_call (ReadEnd t p (Some image)) a = read_good t p image (and_parts _ _ a).0
   event_of_call (WriteEnd t p false) a = write_bad t p a

@@ -1,31 +1,32 @@
 -- Write-outs in flight: what their good end saves.
 use Rattle.std.proofs.Common.{subst, ◌≡◌, refl, sym, ap, ℕ, suc, ◌≤◌, Bool, true, false, not, ◌&&◌, ◌||◌, ◌==◌, cond, if◌then◌else◌, List, [], ◌∷◌, filter, arith}
-use Rattle.std.proofs.lemmas.Bool.{eqb-true, eq-eqb, ne_eqb, eqb-false, and_parts, or_parts, and_from, or_left, not-true}
+use Rattle.std.proofs.lemmas.Bool.{eqb-true, eq-eqb, ne_eqb, eqb-false, and_parts, or_parts, and_from, or_left, or_right, not-true, false_from_ne_true}
 use Rattle.bp_trail.specs.declared.entries.Entry.{Entry}
 use Rattle.bp_trail.specs.declared.entries.Call.{Call}
-use Rattle.bp_trail.specs.declared.entries.Call.TheVariants.{Fix, WriteEnd, Flush}
+use Rattle.bp_trail.specs.declared.entries.Call.TheVariants.{Fix, WriteEnd, Flush, Discard}
 use Rattle.bp_trail.specs.declared.entries.Reply.{Reply}
-use Rattle.bp_trail.specs.declared.entries.Reply.TheVariants.{WriteFirst, Cleaned, StillDirty}
+use Rattle.bp_trail.specs.declared.entries.Reply.TheVariants.{WriteFirst, Cleaned, StillDirty, Absent, Discarded}
 use Rattle.bp_trail.specs.Parameters.{Parameters}
 use Rattle.bp_trail.specs.Lists.{some, every, since, after_last}
-use Rattle.bp_trail.specs.Event.{Grant, grant, same_grant, begins, begins_of, ends_well, writes}
+use Rattle.bp_trail.specs.Event.{Grant, grant, same_grant, begins, begins_of, discards, ends_well, writes}
 use Rattle.bp_trail.specs.Trail.{Trail}
 use Rattle.bp_trail.specs.Passes.{tickets, writes_out, is_of, pins}
 use Rattle.bp_trail.specs.Places.{resident, writing}
-use Rattle.bp_trail.specs.Saved.{began_saving, unsaved, written_since}
+use Rattle.bp_trail.specs.Saved.{began_saving, settles, unsaved, written_since}
 use Rattle.bp_trail.specs.Images.{held}
 use Rattle.bp_trail.specs.Legal.{is_out, Legal}
 use Rattle.bp_trail.proofs.Victim.{victim-is}
 use Rattle.bp_trail.proofs.Events.{Event, event-of}
-use Rattle.bp_trail.proofs.Events.Event.{ticked, marked, fix_hit, fix_load, fix_replace, fix_write, fix_busy, fix_none, fix_log, flush_busy, flush_absent, flush_clean, flush_log, flush_write, read_good, read_bad, read_wrong, write_bad, write_clean, write_dirty, page_read, page_written, unfixed, purged}
+use Rattle.bp_trail.proofs.Events.Event.{ticked, marked, fix_hit, fix_load, fix_replace, fix_write, fix_busy, fix_none, fix_log, flush_busy, flush_absent, flush_clean, flush_log, flush_write, discard_busy, discard_absent, discard_pinned, discarded, read_good, read_bad, read_wrong, write_bad, write_clean, write_dirty, page_read, page_written, unfixed, purged}
 use Rattle.bp_trail.proofs.Serials.{AllBelow, numbered}
+use Rattle.bp_trail.proofs.Ranges.{Stays, stays}
 
--- the write-out of p with this ticket began once, and no write-out of p began later
+-- the write-out of p with this ticket began once, no write-out of p began later, and p was not discarded since
 abbrev pub in_flight : ℕ → ℕ → Trail → Bool
 in_flight t p [] = false
 in_flight t p (e ∷ past) =
     if begins t e.reply then begins_of p e.reply && not (some (λ d. begins t d.reply) past)
-    else not (begins_of p e.reply) && in_flight t p past
+    else not (begins_of p e.reply) && (not (discards p e) && in_flight t p past)
 
 abbrev pub Flights : Trail → Type 0
 Flights past = record {
@@ -44,6 +45,19 @@ every-kept p q (x ∷ xs) h = go (q x) (and_parts (p x) (every p xs) h).0 (every
 abbrev entry : ℕ → Call → Reply → Entry
 entry who call reply = record { client = who; call = call; reply = reply }
 
+-- a reply that begins no write-out
+abbrev begins_nothing : Reply → Bool
+begins_nothing (WriteFirst t p image) = false
+begins_nothing _ = true
+
+quiet : (r : Reply) → begins_nothing r ≡ true → (t : ℕ) → begins t r ≡ false
+quiet (WriteFirst u q image) n t = cc
+quiet _ n t = refl
+
+quiet-of : (r : Reply) → begins_nothing r ≡ true → (p : ℕ) → begins_of p r ≡ false
+quiet-of (WriteFirst u q image) n p = cc
+quiet-of _ n p = refl
+
 -- a write-out of another page begins
 begun-more : (past : Trail) (e : Entry) (n v : ℕ) (image : List ℕ) (gs : List Grant) → e.reply ≡ WriteFirst n v image → AllBelow n gs → some (is_of v) gs ≡ false
     → every (λ g. in_flight g.serial g.page past) gs ≡ true → every (λ g. in_flight g.serial g.page (e ∷ past)) gs ≡ true
@@ -56,7 +70,22 @@ begun-more past e n v image (g ∷ gs) r b w h =
     let f : in_flight g.serial g.page (e ∷ past) ≡ true = rw (r, i, j) a.0 in
     and_from _ _ f (begun-more past e n v image gs r b.1 d.1 a.1)
 
-module _ (c : Parameters) (past : Trail) (who : ℕ) (b : AllBelow (tickets past) (writes_out past)) (h : Flights past) where
+-- another page is discarded
+dropped-more : (past : Trail) (e : Entry) (p : ℕ) (gs : List Grant) → begins_nothing e.reply ≡ true → ((q : ℕ) → discards q e ≡ (p == q)) → some (is_of p) gs ≡ false
+    → every (λ g. in_flight g.serial g.page past) gs ≡ true → every (λ g. in_flight g.serial g.page (e ∷ past)) gs ≡ true
+dropped-more past e p [] n d w h = refl
+dropped-more past e p (g ∷ gs) n d w h =
+    let a = and_parts (in_flight g.serial g.page past) _ h in
+    let k = or_parts (g.page == p) _ w in
+    let other : (p == g.page) ≡ false = ne_eqb p g.page (λ i. eqb-false g.page p k.0 (sym i)) in
+    let f : in_flight g.serial g.page (e ∷ past) ≡ true = rw (quiet e.reply n g.serial, quiet-of e.reply n g.page, d g.page, other) a.0 in
+    and_from _ _ f (dropped-more past e p gs n d k.1 a.1)
+
+module _ (c : Parameters) (past : Trail) (who : ℕ) (b : AllBelow (tickets past) (writes_out past)) (s : Stays past) (h : Flights past) where
+  all-kept : (p : ℕ) (reply : Reply) → begins_nothing reply ≡ true → ((q : ℕ) → discards q (entry who (Discard p) reply) ≡ (p == q)) → writing past p ≡ false
+      → every (λ g. in_flight g.serial g.page (entry who (Discard p) reply ∷ past)) (writes_out past) ≡ true
+  all-kept p reply n d w = dropped-more past (entry who (Discard p) reply) p (writes_out past) n d w h.begun
+
   not-begun : (t : ℕ) → suc (tickets past) ≤ t → (tickets past == t || some (λ e. begins t e.reply) past) ≡ false
   not-begun t k = rw (ne_eqb (tickets past) t (λ e. absurd (omega arith))) (h.below t (omega arith))
 
@@ -88,13 +117,17 @@ module _ (c : Parameters) (past : Trail) (who : ℕ) (b : AllBelow (tickets past
   flights-with _ _ (flush_absent p r) = h
   flights-with _ _ (flush_clean p r u) = h
   flights-with _ _ (flush_log p) = h
+  flights-with _ _ (discard_busy p) = h
+  flights-with _ _ (discard_absent p x) = record { begun = all-kept p Absent refl (λ q. refl) (false_from_ne_true (writing past p) (λ w. let k = s p w in let n = x.not_resident in cc)); below = h.below }
+  flights-with _ _ (discard_pinned p) = h
+  flights-with _ _ (discarded p x) = record { begun = all-kept p Discarded refl (λ q. refl) x.not_writing; below = h.below }
   flights-with _ _ (page_read n p o) = h
   flights-with _ _ (page_written n p offset bytes lsn o) = h
   flights-with _ _ purged = h
 
 pub flights : (c : Parameters) (past : Trail) → Legal c past → Flights past
 flights c [] l = record { begun = refl; below = λ t k. refl }
-flights c (e ∷ past) l = flights-with c past e.client (numbered c past l.before).writes_below (flights c past l.before) e.call e.reply (event-of c past e l.here)
+flights c (e ∷ past) l = flights-with c past e.client (numbered c past l.before).writes_below (stays c past l.before) (flights c past l.before) e.call e.reply (event-of c past e l.here)
 
 -- an entry that begins a write-out writes nothing
 pub begin-writes : (c : Parameters) (past : Trail) (who : ℕ) (call : Call) (reply : Reply) → Event c past who call reply → (t q : ℕ) → begins t reply ≡ true → writes q (entry who call reply) ≡ false
@@ -113,19 +146,20 @@ module _ (c : Parameters) (t p : ℕ) (whole : Trail) (well : some (λ e. ends_w
   not-saved-at _ j = refl
 
   -- the writes of p that are left unsaved are those since the begin
-  since-begin : (past : Trail) → Legal c past → in_flight t p past ≡ true → since (writes p) (λ e. began_saving whole p e.reply) past ≡ written_since past t p
+  since-begin : (past : Trail) → Legal c past → in_flight t p past ≡ true → since (writes p) (settles whole p) past ≡ written_since past t p
   since-begin [] l f = cc
   since-begin (e ∷ past) l f = go (begins t e.reply) refl f (since-begin past l.before)
     where
-      go : (b : Bool) → begins t e.reply ≡ b → (if b then begins_of p e.reply && not (some (λ d. begins t d.reply) past) else not (begins_of p e.reply) && in_flight t p past) ≡ true
-          → (in_flight t p past ≡ true → since (writes p) (λ e. began_saving whole p e.reply) past ≡ written_since past t p)
-          → (writes p e || (not (began_saving whole p e.reply) && since (writes p) (λ e. began_saving whole p e.reply) past)) ≡ some (writes p) (if b then [] else e ∷ after_last (λ e. begins t e.reply) past)
+      go : (b : Bool) → begins t e.reply ≡ b → (if b then begins_of p e.reply && not (some (λ d. begins t d.reply) past) else not (begins_of p e.reply) && (not (discards p e) && in_flight t p past)) ≡ true
+          → (in_flight t p past ≡ true → since (writes p) (settles whole p) past ≡ written_since past t p)
+          → (writes p e || (not (settles whole p e) && since (writes p) (settles whole p) past)) ≡ some (writes p) (if b then [] else e ∷ after_last (λ e. begins t e.reply) past)
       go true i k ih =
           let j = (and_parts (begins_of p e.reply) _ k).0 in
-          rw (begin-writes c past e.client e.call e.reply (event-of c past e l.here) t p i, saved-at e.reply i j) refl
+          rw (begin-writes c past e.client e.call e.reply (event-of c past e l.here) t p i, or_right (discards p e) (began_saving whole p e.reply) (saved-at e.reply i j)) refl
       go false i k ih =
           let j = and_parts (not (begins_of p e.reply)) _ k in
-          rw (not-saved-at e.reply (not-true (begins_of p e.reply) j.0)) (ap (λ x. writes p e || x) (ih j.1))
+          let d = and_parts (not (discards p e)) _ j.1 in
+          rw (not-true (discards p e) d.0, not-saved-at e.reply (not-true (begins_of p e.reply) j.0)) (ap (λ x. writes p e || x) (ih d.1))
 
 -- what is in flight, of a ticket that is out
 pub in-flight-of : (f : ℕ → ℕ → Bool) (who p t : ℕ) (gs : List Grant) → every (λ g. f g.serial g.page) gs ≡ true → is_out (grant who p t) gs ≡ true → f t p ≡ true
@@ -141,10 +175,10 @@ in-flight-of f who p t (g ∷ gs) h o = go (same_grant (grant who p t) g) refl o
 
 -- A write-out of p ends well: p is unsaved as far as it was written since the begin.
 pub unsaved-ended-well : (c : Parameters) (past : Trail) (who t p : ℕ) (r : Reply) → Legal c past → is_out (grant who p t) (writes_out past) ≡ true
-    → unsaved (entry who (WriteEnd t p true) r ∷ past) p ≡ (not (began_saving (entry who (WriteEnd t p true) r ∷ past) p r) && written_since past t p)
+    → unsaved (entry who (WriteEnd t p true) r ∷ past) p ≡ (not (settles (entry who (WriteEnd t p true) r ∷ past) p (entry who (WriteEnd t p true) r)) && written_since past t p)
 unsaved-ended-well c past who t p r l o =
     let f = in-flight-of (λ t p. in_flight t p past) who p t (writes_out past) (flights c past l).begun o in
-    ap (λ x. not (began_saving (entry who (WriteEnd t p true) r ∷ past) p r) && x) (since-begin c t p (entry who (WriteEnd t p true) r ∷ past) (or_left (t == t) (some (λ e. ends_well t e.call) past) (eq-eqb t t refl)) past l f)
+    ap (λ x. not (settles (entry who (WriteEnd t p true) r ∷ past) p (entry who (WriteEnd t p true) r)) && x) (since-begin c t p (entry who (WriteEnd t p true) r ∷ past) (or_left (t == t) (some (λ e. ends_well t e.call) past) (eq-eqb t t refl)) past l f)
 
 pub unsaved-cleaned : (c : Parameters) (past : Trail) (who t p : ℕ) → Legal c past → is_out (grant who p t) (writes_out past) ≡ true
     → unsaved (entry who (WriteEnd t p true) Cleaned ∷ past) p ≡ written_since past t p
@@ -157,18 +191,18 @@ unsaved-still_dirty c past who t p l o = unsaved-ended-well c past who t p Still
 -- A good end saves no other page.
 module _ (c : Parameters) (t p q : ℕ) (whole : Trail) (other : (p == q) ≡ false) where
   none-since : (e : Entry) (past : Trail) (who : ℕ) (r : Reply) → some (λ d. begins t d.reply) past ≡ false
-      → since (writes q) (λ d. began_saving (entry who (WriteEnd t p true) r ∷ whole) q d.reply) past ≡ since (writes q) (λ d. began_saving whole q d.reply) past
+      → since (writes q) (settles (entry who (WriteEnd t p true) r ∷ whole) q) past ≡ since (writes q) (settles whole q) past
   none-since e [] who r h = refl
   none-since e (d ∷ past) who r h =
       let k = or_parts (begins t d.reply) _ h in
-      rw (same d.reply k.0) (ap (λ x. writes q d || (not (began_saving whole q d.reply) && x)) (none-since e past who r k.1))
+      rw (same d.reply k.0) (ap (λ x. writes q d || (not (settles whole q d) && x)) (none-since e past who r k.1))
     where
       same : (a : Reply) → begins t a ≡ false → began_saving (entry who (WriteEnd t p true) r ∷ whole) q a ≡ began_saving whole q a
       same (WriteFirst u v image) h = rw (ne_eqb u t (eqb-false u t h)) refl
       same _ h = refl
 
   pub since-other : (past : Trail) (who : ℕ) (r : Reply) → in_flight t p past ≡ true
-      → since (writes q) (λ d. began_saving (entry who (WriteEnd t p true) r ∷ whole) q d.reply) past ≡ since (writes q) (λ d. began_saving whole q d.reply) past
+      → since (writes q) (settles (entry who (WriteEnd t p true) r ∷ whole) q) past ≡ since (writes q) (settles whole q) past
   since-other [] who r f = refl
   since-other (d ∷ past) who r f = go (begins t d.reply) refl f (since-other past who r)
     where
@@ -180,13 +214,13 @@ module _ (c : Parameters) (t p q : ℕ) (whole : Trail) (other : (p == q) ≡ fa
       at-later (WriteFirst u v image) h = rw (ne_eqb u t (eqb-false u t h)) refl
       at-later _ h = refl
 
-      go : (b : Bool) → begins t d.reply ≡ b → (if b then begins_of p d.reply && not (some (λ x. begins t x.reply) past) else not (begins_of p d.reply) && in_flight t p past) ≡ true
-          → (in_flight t p past ≡ true → since (writes q) (λ d. began_saving (entry who (WriteEnd t p true) r ∷ whole) q d.reply) past ≡ since (writes q) (λ d. began_saving whole q d.reply) past)
-          → since (writes q) (λ d. began_saving (entry who (WriteEnd t p true) r ∷ whole) q d.reply) (d ∷ past) ≡ since (writes q) (λ d. began_saving whole q d.reply) (d ∷ past)
+      go : (b : Bool) → begins t d.reply ≡ b → (if b then begins_of p d.reply && not (some (λ x. begins t x.reply) past) else not (begins_of p d.reply) && (not (discards p d) && in_flight t p past)) ≡ true
+          → (in_flight t p past ≡ true → since (writes q) (settles (entry who (WriteEnd t p true) r ∷ whole) q) past ≡ since (writes q) (settles whole q) past)
+          → since (writes q) (settles (entry who (WriteEnd t p true) r ∷ whole) q) (d ∷ past) ≡ since (writes q) (settles whole q) (d ∷ past)
       go true i k ih =
           let j = and_parts (begins_of p d.reply) _ k in
-          rw (at-begin d.reply j.0 (entry who (WriteEnd t p true) r ∷ whole), at-begin d.reply j.0 whole) (ap (λ x. writes q d || x) (none-since d past who r (not-true _ j.1)))
-      go false i k ih = rw (at-later d.reply i) (ap (λ x. writes q d || (not (began_saving whole q d.reply) && x)) (ih (and_parts (not (begins_of p d.reply)) _ k).1))
+          rw (at-begin d.reply j.0 (entry who (WriteEnd t p true) r ∷ whole), at-begin d.reply j.0 whole) (ap (λ x. writes q d || (not (discards q d || false) && x)) (none-since d past who r (not-true _ j.1)))
+      go false i k ih = rw (at-later d.reply i) (ap (λ x. writes q d || (not (settles whole q d) && x)) (ih (and_parts (not (discards p d)) _ (and_parts (not (begins_of p d.reply)) _ k).1).1))
 
 pub unsaved-other : (c : Parameters) (past : Trail) (who t p q : ℕ) → Legal c past → is_out (grant who p t) (writes_out past) ≡ true → (p == q) ≡ false
     → unsaved (entry who (WriteEnd t p true) Cleaned ∷ past) q ≡ unsaved past q

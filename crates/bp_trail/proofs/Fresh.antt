@@ -1,5 +1,5 @@
 -- Four numbers tell whether a legal trail leads where the empty one does.
-use Rattle.std.proofs.Common.{◌≡◌, refl, ap, subst, ℕ, Bool, true, false, List, [], ◌∷◌, if◌then◌else◌, arith}
+use Rattle.std.proofs.Common.{◌≡◌, refl, ap, subst, ℕ, Bool, true, false, ◌==◌, List, [], ◌∷◌, if◌then◌else◌, arith}
 use Rattle.std.proofs.lemmas.Bool.{false_from_ne_true}
 use Rattle.bp_references.specs.Burst.{last_time}
 use Rattle.bp_references.specs.Stamp.{stamp}
@@ -17,7 +17,7 @@ use Rattle.bp_trail.specs.Legal.{Legal}
 use Rattle.bp_trail.proofs.Same.{SameStanding}
 use Rattle.bp_trail.specs.Standing.{standing}
 use Rattle.bp_trail.proofs.Events.{Event, event-of}
-use Rattle.bp_trail.proofs.Events.Event.{fix_hit, fix_replace, read_good, purged}
+use Rattle.bp_trail.proofs.Events.Event.{fix_hit, fix_replace, discard_absent, discarded, read_good, purged}
 use Rattle.bp_trail.proofs.Serials.{AllBelow, numbered}
 use Rattle.bp_trail.proofs.Places.{places}
 use Rattle.bp_trail.proofs.Standings.{standing-from-same}
@@ -38,6 +38,12 @@ module _ (c : Parameters) (s : Trail) (who : ℕ) (before : passes s ≡ 0 → U
   unused-with _ _ (fix_hit p l r) z = absurd (omega arith)
   unused-with _ _ (read_good t p image o) z = absurd (omega arith)
   unused-with _ _ (fix_replace p v m w u) z = let h = before z in record { away = rw h.away refl; known = h.known }
+  unused-with _ _ (discard_absent p x) z = let h = before z in record { away = h.away; known = λ q. but q (p == q) (h.known q) }
+    where
+      but : (q : ℕ) (b : Bool) → references c s q ≡ [] → (if b then [] else references c s q) ≡ []
+      but q true e = refl
+      but q false e = e
+  unused-with _ _ (discarded p x) z = let h = before z in let k = rw h.away at x.here in cc
   unused-with _ _ purged z = let h = before z in record { away = h.away; known = λ q. go q (forgets c s q (references c s q)) (h.known q) }
     where
       go : (q : ℕ) (b : Bool) → references c s q ≡ [] → (if b then [] else references c s q) ≡ []

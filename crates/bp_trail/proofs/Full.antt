@@ -5,14 +5,13 @@ use Rattle.std.proofs.lemmas.Bool.{and_parts, and_from, ltb-true, lt-ltb, le-leb
 use Rattle.bp_trail.specs.declared.records.LogRecord.{LogRecord}
 use Rattle.bp_trail.specs.Lists.{every}
 use Rattle.bp_trail.specs.Trail.{Trail}
-use Rattle.bp_trail.specs.Images.{plain_map}
+use Rattle.bp_trail.specs.Images.{written_into}
 use Rattle.bp_trail.specs.Standing.{Content}
 use Rattle.bp_trail.specs.Recovery.{within, records_from, Rise, AllFit, HasFullImage, patch, put, apply_all_newer, apply_newer_or_full, apply_all_newer_or_full, redo_with_full_images, AppliesAlike, PutsIn, LogHas}
-use Rattle.bp_trail.proofs.Bytes.{length-patched, patched-whole, filter-fit, from_lsn}
+use Rattle.bp_trail.proofs.Bytes.{length-patched, patched-whole, full-bytes, filter-fit, from_lsn}
 use Rattle.bp_trail.proofs.Recovered.{filter-every, refilter}
 use Rattle.bp_trail.proofs.Redoing.{redo-plain}
 use Rattle.bp_trail.proofs.Stamped.{rise-front, rise-above, newer-below, all-newer}
-use Rattle.bp_trail.proofs.Crashes.{full-bytes}
 
 or-either : (a b : Bool) → b ≡ true → (a || b) ≡ b
 or-either true b h = sym h
@@ -67,7 +66,7 @@ full-wanted log start from p size le rises w le_full =
 pub redo-torn : (is_full : LogRecord → Bool) (apply : LogRecord → List ℕ → List ℕ) (first : ℕ → List ℕ) (past : Trail) (log : List LogRecord) (start from end p : ℕ) (x : Content)
     → (h : LogHas log start from end past p) → start ≤ from → Rise (records_from start log p) → AppliesAlike apply (records_from start log p) (first p)
     → (w : HasFullImage (length (first p)) (records_from start log p)) → from ≤ w.full.lsn → is_full w.full ≡ true → PutsIn apply (length (first p)) w.full → length x.image ≡ length (first p)
-    → (redo_with_full_images is_full apply from log p x).image ≡ put h.unwritten (plain_map first (within end past) p)
+    → (redo_with_full_images is_full apply from log p x).image ≡ put h.unwritten (written_into first (within end past) p)
 redo-torn is_full apply first past log start from end p x h le rises alike w le_full told put_in long =
     let size = length (first p) in
     let older = filter (from_lsn from) w.older in

@@ -9,18 +9,18 @@ use Rattle.bp_trail.specs.declared.entries.Call.TheVariants.{Fix}
 use Rattle.bp_trail.specs.declared.entries.Reply.{Reply}
 use Rattle.bp_trail.specs.declared.entries.Reply.TheVariants.{Load, WriteFirst}
 use Rattle.bp_trail.specs.Parameters.{Parameters}
-use Rattle.bp_trail.specs.Lists.{some, count, greatest, EachEntry}
-use Rattle.bp_trail.specs.Event.{Grant, grant, writes, lsn_of, lsn_written}
+use Rattle.bp_trail.specs.Lists.{some, count, greatest, after_last, EachEntry}
+use Rattle.bp_trail.specs.Event.{Grant, discards, writes, lsn_of, lsn_written}
 use Rattle.bp_trail.specs.Trail.{Trail}
 use Rattle.bp_trail.specs.Passes.{passes, tickets, passes_out, reads_out, writes_out, is_of, pins}
 use Rattle.bp_trail.specs.Places.{residents, resident, loading, writing}
 use Rattle.bp_trail.specs.Saved.{unsaved}
 use Rattle.bp_trail.specs.Images.{held, plain_map}
-use Rattle.bp_trail.specs.Legal.{Legal, is_out}
-use Rattle.bp_trail.specs.Device.{due, HonestOf}
+use Rattle.bp_trail.specs.Legal.{Legal}
+use Rattle.bp_trail.specs.Device.{due, discarded_since_sent, HonestOf}
 use Rattle.bp_trail.specs.Victim.{backward_distance, victim}
 use Rattle.bp_trail.specs.Sentences.{IsCandidate, IsFirst}
-use Rattle.bp_trail.specs.Safety.{EvictsSafely, WritesAreDurable}
+use Rattle.bp_trail.specs.Safety.{EvictsSafely, DiscardsSafely, WritesAreDurable}
 use Rattle.bp_trail.specs.Claims.{ReadsAreKnown, FindsDue, AnswersPlain, SendsPlain}
 use Rattle.bp_trail.proofs.Elements.{contains-cases, contains-none}
 use Rattle.bp_trail.proofs.Lists.{member}
@@ -34,7 +34,7 @@ use Rattle.bp_trail.proofs.Places.{OnePage, places, out-of_page}
 use Rattle.bp_trail.proofs.Residents.{Distinct, frames}
 use Rattle.bp_trail.proofs.Known.{airborne}
 use Rattle.bp_trail.proofs.Content.{read_end_known, held-plain}
-use Rattle.bp_trail.proofs.Eviction.{evicted-at, eviction}
+use Rattle.bp_trail.proofs.Eviction.{evicted-at, eviction, discard}
 use Rattle.bp_trail.proofs.Sentences.{victim-first}
 use Rattle.bp_trail.proofs.Distance.{none-farther}
 use Rattle.bp_trail.proofs.WriteAhead.{write_ahead}
@@ -123,16 +123,13 @@ writes-once c past n l = serial-count n (writes_out past) (numbered c past l).wr
 
 -- ---- images
 
-due-known : (c : Parameters) (m : ℕ → List ℕ) (past : Trail) (who p t : ℕ) → Legal c past → is_out (grant who p t) (reads_out past) ≡ true → IsSome (due m past p)
-due-known c m past who p t l o = subst IsSome (sym (read_end_known c m past who p t l o)) refl
-
 pub reads-known : (c : Parameters) (past : Trail) → Legal c past → ReadsAreKnown past
-reads-known c past l m who p t o = due-known c m past who p t l o
+reads-known c past l m who p t o d = read_end_known c m past who p t l o d
 
 finds : (c : Parameters) (past : Trail) → Legal c past → (who : ℕ) (call : Call) (reply : Reply) → Event c past who call reply → FindsDue past (entry who call reply)
-finds c past l who _ _ (read_good u q given o) m t p image i = let j : q ≡ p = cc in subst (λ x. IsSome (due m past x)) j (due-known c m past who q u l o)
-finds c past l who _ _ (read_bad u q o) m t p image i = let j : q ≡ p = cc in subst (λ x. IsSome (due m past x)) j (due-known c m past who q u l o)
-finds c past l who _ _ (read_wrong u q o) m t p image i = let j : q ≡ p = cc in subst (λ x. IsSome (due m past x)) j (due-known c m past who q u l o)
+finds c past l who _ _ (read_good u q given o) m t p image i = let j : q ≡ p = cc in subst (λ x. discarded_since_sent past x ≡ false → IsSome (due m past x)) j (read_end_known c m past who q u l o)
+finds c past l who _ _ (read_bad u q o) m t p image i = let j : q ≡ p = cc in subst (λ x. discarded_since_sent past x ≡ false → IsSome (due m past x)) j (read_end_known c m past who q u l o)
+finds c past l who _ _ (read_wrong u q o) m t p image i = let j : q ≡ p = cc in subst (λ x. discarded_since_sent past x ≡ false → IsSome (due m past x)) j (read_end_known c m past who q u l o)
 finds c past l who _ _ _ m t p image i = cc
 
 pub each-finds : (c : Parameters) (past : Trail) → Legal c past → EachEntry FindsDue past
@@ -166,6 +163,9 @@ each-sends c = of-all c SendsPlain (λ past e l. sends c past l.before e.client 
 
 pub each-evicts : (c : Parameters) (past : Trail) → Legal c past → EachEntry (EvictsSafely c) past
 each-evicts c = of-all c (EvictsSafely c) (λ past e l. eviction c past e l.here)
+
+pub each-discards : (c : Parameters) (past : Trail) → Legal c past → EachEntry DiscardsSafely past
+each-discards c = of-all c DiscardsSafely (λ past e l. discard c past e l)
 
 -- the page that leaves, or that is written out first for a fix
 abbrev pub EvictsFirst : Parameters → Trail → Entry → Type 0
@@ -203,4 +203,4 @@ lsn-bounded p (e ∷ past) w k i = elim (contains-cases e past w k) as (λ _. ls
     there (Some n) b = omega arith
 
 pub each-durable : (c : Parameters) (past : Trail) → Legal c past → EachEntry WritesAreDurable past
-each-durable c = of-all c WritesAreDurable (λ past e l t p image w r k i. let a = write_ahead c past e t p image l r in let b = lsn-bounded p past w k i in omega arith)
+each-durable c = of-all c WritesAreDurable (λ past e l t p image w r k i. let a = write_ahead c past e t p image l r in let b = lsn-bounded p (after_last (discards p) past) w k i in omega arith)

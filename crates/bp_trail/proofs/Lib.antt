@@ -26,9 +26,11 @@ pub mod Standings
 pub mod StandingsAlike
 pub mod Fresh
 pub mod Since
+pub mod Plain
 pub mod Cuts
 pub mod SecondFix
 pub mod Rows
+pub mod DiscardExamples
 pub mod Comparing
 pub mod Logged
 pub mod InPieces

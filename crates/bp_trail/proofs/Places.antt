@@ -1,6 +1,6 @@
 -- Where the pages of a legal trail are: one that is loading is away, and one that is pinned or unsaved is resident.
-use Rattle.std.proofs.Common.{inl, inr, subst, ◌≡◌, refl, sym, ℕ, Bool, true, false, not, ◌||◌, ◌==◌, cond, List, [], ◌∷◌, filter, Some}
-use Rattle.std.proofs.lemmas.Bool.{eqb-true, eq-eqb, ne_eqb, and_parts, and_from, or_left, or_right, or_cases, not_from_false, false_from_ne_true}
+use Rattle.std.proofs.Common.{inl, inr, subst, ◌≡◌, refl, sym, ℕ, Bool, true, false, not, ◌&&◌, ◌||◌, ◌==◌, cond, List, [], ◌∷◌, filter, Some}
+use Rattle.std.proofs.lemmas.Bool.{eqb-true, eqb-false, eq-eqb, ne_eqb, and_parts, and_from, or_parts, or_left, or_right, or_cases, not-true, not_from_false, false_from_ne_true}
 use Rattle.bp_trail.specs.declared.entries.Entry.{Entry}
 use Rattle.bp_trail.specs.declared.entries.Call.{Call}
 use Rattle.bp_trail.specs.declared.entries.Call.TheVariants.{WriteEnd}
@@ -8,17 +8,17 @@ use Rattle.bp_trail.specs.declared.entries.Reply.{Reply}
 use Rattle.bp_trail.specs.declared.entries.Reply.TheVariants.{WriteFirst, Cleaned, StillDirty}
 use Rattle.bp_trail.specs.Parameters.{Parameters}
 use Rattle.bp_trail.specs.Lists.{some, without, since}
-use Rattle.bp_trail.specs.Event.{Grant, grant, same_grant, ends_well, writes}
+use Rattle.bp_trail.specs.Event.{Grant, grant, same_grant, discards, ends_well, writes}
 use Rattle.bp_trail.specs.Trail.{Trail}
 use Rattle.bp_trail.specs.Passes.{passes_out, reads_out, is_of, pins}
 use Rattle.bp_trail.specs.Places.{residents, resident, loading}
-use Rattle.bp_trail.specs.Saved.{began_saving, unsaved}
+use Rattle.bp_trail.specs.Saved.{began_saving, settles, unsaved}
 use Rattle.bp_trail.specs.Victim.{victim}
 use Rattle.bp_trail.specs.Legal.{is_out, Legal}
 use Rattle.bp_trail.proofs.Lists.{some-filter, some-without, some-mono, since-mono, count-none, member-filter}
 use Rattle.bp_trail.proofs.Victim.{victim-is}
 use Rattle.bp_trail.proofs.Events.{Event, event-of}
-use Rattle.bp_trail.proofs.Events.Event.{ticked, marked, fix_hit, fix_load, fix_replace, fix_write, fix_busy, fix_none, fix_log, flush_busy, flush_absent, flush_clean, flush_log, flush_write, read_good, read_bad, read_wrong, write_bad, write_clean, write_dirty, page_read, page_written, unfixed, purged}
+use Rattle.bp_trail.proofs.Events.Event.{ticked, marked, fix_hit, fix_load, fix_replace, fix_write, fix_busy, fix_none, fix_log, flush_busy, flush_absent, flush_clean, flush_log, flush_write, discard_busy, discard_absent, discard_pinned, discarded, read_good, read_bad, read_wrong, write_bad, write_clean, write_dirty, page_read, page_written, unfixed, purged}
 
 -- no two of the grants are of one page
 abbrev pub OnePage : List Grant → Type 0
@@ -80,9 +80,23 @@ began-ended : (past : Trail) (e : Entry) (p : ℕ) (r : Reply) → began_saving 
 began-ended past e p (WriteFirst t q image) k = let a = and_parts (q == p) _ k in and_from (q == p) _ a.0 (or_right (ends_well t e.call) _ a.1)
 began-ended past e p _ k = cc
 
-pub unsaved-ended : (past : Trail) (e : Entry) (p : ℕ) → since (writes p) (λ d. began_saving (e ∷ past) p d.reply) past ≡ true → unsaved past p ≡ true
-unsaved-ended past e p m =
-    since-mono (writes p) (λ d. began_saving past p d.reply) (λ d. began_saving (e ∷ past) p d.reply) past (λ x h. began-ended past e p x.reply h) m
+settles-ended : (past : Trail) (e : Entry) (p : ℕ) (d : Entry) → settles past p d ≡ true → settles (e ∷ past) p d ≡ true
+settles-ended past e p d k = elim (or_cases (discards p d) (began_saving past p d.reply) k) as (λ _. settles (e ∷ past) p d ≡ true)
+    [ inl i ↦ or_left (discards p d) (began_saving (e ∷ past) p d.reply) i | inr j ↦ or_right (discards p d) (began_saving (e ∷ past) p d.reply) (began-ended past e p d.reply j) ]
+
+pub unsaved-ended : (past : Trail) (e : Entry) (p : ℕ) → since (writes p) (settles (e ∷ past) p) past ≡ true → unsaved past p ≡ true
+unsaved-ended past e p m = since-mono (writes p) (settles past p) (settles (e ∷ past) p) past (settles-ended past e p) m
+
+-- a discard leaves no page unsaved but others that were
+pub unsaved-dropped : (past : Trail) (p q : ℕ) → (not ((p == q) || false) && unsaved past q) ≡ true → ((p == q) ≡ false) × (unsaved past q ≡ true)
+unsaved-dropped past p q h = let a = and_parts (not ((p == q) || false)) _ h in ((or_parts (p == q) false (not-true ((p == q) || false) a.0)).0, a.1)
+
+-- the pages that an idle page is none of
+pub other-way : (p q : ℕ) → (p == q) ≡ false → (q == p) ≡ false
+other-way p q h = ne_eqb q p (λ i. eqb-false p q h (sym i))
+
+pub not-idle : (past : Trail) (p q : ℕ) → pins past p ≡ 0 → some (is_of q) (passes_out past) ≡ true → (q == p) ≡ false
+not-idle past p q n m = ne_eqb q p (λ e. let k = count-none (is_of p) (passes_out past) n in let i = rw e at m in cc)
 
 not-victim : (c : Parameters) (past : Trail) (v p : ℕ) → victim c past ≡ Some v → some (is_of p) (passes_out past) ≡ true → (p == v) ≡ false
 not-victim c past v p h m =
@@ -128,6 +142,15 @@ module _ (c : Parameters) (past : Trail) (who : ℕ) (h : Places past) where
   places-with _ _ (flush_absent p r) = h
   places-with _ _ (flush_clean p r u) = h
   places-with _ _ (flush_log p) = h
+  places-with _ _ (discard_busy p) = h
+  places-with _ _ (discard_absent p x) = record { away = h.away; once = h.once; pinned = h.pinned; dirty = λ q l. h.dirty q (unsaved-dropped past p q l).1 }
+  places-with _ _ (discard_pinned p) = h
+  places-with _ _ (discarded p x) = record {
+    away = λ q l. false_from_ne_true _ (λ k. let a = h.away q l in let b = some-without (λ y. y == q) (λ y. y) (Some p) (residents past) k in cc);
+    once = h.once;
+    pinned = λ q l. stays past p q (not-idle past p q x.unpinned l) (h.pinned q l);
+    dirty = λ q l. let u = unsaved-dropped past p q l in stays past p q (other-way p q u.0) (h.dirty q u.1);
+  }
   places-with _ _ (flush_write p r w g) = record { away = h.away; once = h.once; pinned = h.pinned; dirty = λ q l. h.dirty q (and_parts _ _ l).1 }
   places-with _ _ (read_good t p image o) = record {
     away = λ q l. false_from_ne_true _ (λ k. elim (or_cases (p == q) (resident past q) k) as (λ _. ⊥) [

@@ -1,6 +1,6 @@
 -- Of a legal trail: what is out is of a page in range, a resident page has references and an image of the page's size, and only pages in range have references.
 use Rattle.std.proofs.Common.{◌≡◌, refl, sym, subst, ◌∙◌, ℕ, suc, ◌+◌, ◌≤◌, nat_lt, Bool, true, false, not, ◌||◌, ◌==◌, cond, if◌then◌else◌, List, [], ◌∷◌, ◌++◌, filter, length, take, drop, inl, inr, arith, length-append, length-take, length-drop}
-use Rattle.std.proofs.lemmas.Bool.{eqb-true, ne_eqb, and_parts, and_from, or_cases, or_right, leb-true, not-true, not_from_false, false_from_ne_true}
+use Rattle.std.proofs.lemmas.Bool.{eqb-true, ne_eqb, and_parts, and_from, or_cases, or_right, leb-true, not-true, not_from_false, false_from_ne_true, true≢false}
 use Rattle.std.proofs.lemmas.Bool.Decides.{nat_tests}
 use Rattle.bp_page.specs.Patched.{patched}
 use Rattle.bp_references.specs.Burst.Reference.{hit, fault}
@@ -17,12 +17,13 @@ use Rattle.bp_trail.specs.Places.{residents, resident, loading, writing}
 use Rattle.bp_trail.specs.Images.{held}
 use Rattle.bp_trail.specs.References.{references, is_empty, forgets}
 use Rattle.bp_trail.specs.Legal.{is_out, allowed, Legal}
-use Rattle.bp_trail.proofs.Lists.{some-filter, member-filter}
+use Rattle.bp_trail.proofs.Lists.{member, some-filter, member-filter}
 use Rattle.bp_trail.proofs.Victim.{victim-is, candidate-resident}
 use Rattle.bp_trail.proofs.Events.{Event, event-of}
-use Rattle.bp_trail.proofs.Events.Event.{ticked, marked, fix_hit, fix_load, fix_replace, fix_write, fix_busy, fix_none, fix_log, flush_busy, flush_absent, flush_clean, flush_log, flush_write, read_good, read_bad, read_wrong, write_bad, write_clean, write_dirty, page_read, page_written, unfixed, purged}
+use Rattle.bp_trail.proofs.Events.Event.{ticked, marked, fix_hit, fix_load, fix_replace, fix_write, fix_busy, fix_none, fix_log, flush_busy, flush_absent, flush_clean, flush_log, flush_write, discard_busy, discard_absent, discard_pinned, discarded, read_good, read_bad, read_wrong, write_bad, write_clean, write_dirty, page_read, page_written, unfixed, purged}
 use Rattle.bp_trail.proofs.Serials.{AllBelow, numbered}
 use Rattle.bp_trail.proofs.Places.{out-of_page}
+use Rattle.bp_trail.proofs.Residents.{left-none}
 
 abbrev entry : ℕ → Call → Reply → Entry
 entry who call reply = record { client = who; call = call; reply = reply }
@@ -64,6 +65,10 @@ module _ (c : Parameters) (past : Trail) (who : ℕ) (h : InRange c past) where
   ranges-with _ _ (flush_absent p r) a = h
   ranges-with _ _ (flush_clean p r u) a = h
   ranges-with _ _ (flush_log p) a = h
+  ranges-with _ _ (discard_busy p) a = h
+  ranges-with _ _ (discard_absent p x) a = h
+  ranges-with _ _ (discard_pinned p) a = h
+  ranges-with _ _ (discarded p x) a = record { reads = h.reads; pages = λ q k. h.pages q (some-filter (λ r. r == q) (λ r. not (r == p)) (residents past) k) }
   ranges-with _ _ (page_read n p o) a = h
   ranges-with _ _ (page_written n p offset bytes lsn o) a = h
   ranges-with _ _ purged a = h
@@ -114,6 +119,10 @@ module _ (c : Parameters) (past : Trail) (who : ℕ) (l : Legal c past) (h : Siz
   sized-with _ _ (flush_absent p r) a = h
   sized-with _ _ (flush_clean p r u) a = h
   sized-with _ _ (flush_log p) a = h
+  sized-with _ _ (discard_busy p) a = h
+  sized-with _ _ (discard_absent p x) a = h
+  sized-with _ _ (discard_pinned p) a = h
+  sized-with _ _ (discarded p x) a = λ q k. h q (some-filter (λ r. r == q) (λ r. not (r == p)) (residents past) k)
   sized-with _ _ (page_read n p o) a = h
   sized-with _ _ purged a = h
 
@@ -130,6 +139,17 @@ Referred c past = record {
 }
 
 module _ (c : Parameters) (past : Trail) (who : ℕ) (l : Legal c past) (h : Referred c past) where
+  -- of all pages but p, which is discarded
+  kept-but : (p q : ℕ) → (p ≡ q → ⊥) → is_empty (references c past q) ≡ false → is_empty (if p == q then [] else references c past q) ≡ false
+  kept-but p q n k = rw (ne_eqb p q n) k
+
+  less-but : (p q : ℕ) → (is_empty (references c past q) ≡ false → nat_lt q c.pages ≡ true) → is_empty (if p == q then [] else references c past q) ≡ false → nat_lt q c.pages ≡ true
+  less-but p q w k = at (p == q) k
+    where
+      at : (b : Bool) → is_empty (if b then [] else references c past q) ≡ false → nat_lt q c.pages ≡ true
+      at true k = cc
+      at false k = w k
+
   referred-with : (call : Call) (reply : Reply) → Event c past who call reply → allowed c past who call ≡ true → Referred c (entry who call reply ∷ past)
   referred-with _ _ (fix_hit p x r) a = record {
     known = λ q k. kept q (p == q) (h.known q k);
@@ -184,6 +204,13 @@ module _ (c : Parameters) (past : Trail) (who : ℕ) (l : Legal c past) (h : Ref
   referred-with _ _ (flush_absent p r) a = h
   referred-with _ _ (flush_clean p r u) a = h
   referred-with _ _ (flush_log p) a = h
+  referred-with _ _ (discard_busy p) a = h
+  referred-with _ _ (discard_absent p x) a = record { known = λ q k. kept-but p q (λ e. let i = rw e at x.not_resident in true≢false (sym k ∙ i)) (h.known q k); within = λ q k. less-but p q (h.within q) k }
+  referred-with _ _ (discard_pinned p) a = h
+  referred-with _ _ (discarded p x) a = record {
+    known = λ q k. kept-but p q (λ e. true≢false (sym k ∙ subst (λ y. member q (filter (λ r. not (r == y)) (residents past)) ≡ false) (sym e) (left-none q (residents past)))) (h.known q (some-filter (λ r. r == q) (λ r. not (r == p)) (residents past) k));
+    within = λ q k. less-but p q (h.within q) k;
+  }
   referred-with _ _ (page_read n p o) a = h
 
 pub referred : (c : Parameters) (past : Trail) → Legal c past → Referred c past
@@ -233,6 +260,10 @@ module _ (c : Parameters) (past : Trail) (who : ℕ) (client : nat_lt who c.clie
   owned-with _ _ (flush_absent p r) = h
   owned-with _ _ (flush_clean p r u) = h
   owned-with _ _ (flush_log p) = h
+  owned-with _ _ (discard_busy p) = h
+  owned-with _ _ (discard_absent p x) = h
+  owned-with _ _ (discard_pinned p) = h
+  owned-with _ _ (discarded p x) = h
   owned-with _ _ (page_read n p o) = h
   owned-with _ _ (page_written n p offset bytes lsn o) = h
   owned-with _ _ purged = h
@@ -290,6 +321,10 @@ module _ (c : Parameters) (past : Trail) (who : ℕ) (below : AllBelow (tickets 
   no_end-with _ _ (flush_absent p r) = h
   no_end-with _ _ (flush_clean p r u) = h
   no_end-with _ _ (flush_log p) = h
+  no_end-with _ _ (discard_busy p) = h
+  no_end-with _ _ (discard_absent p x) = h
+  no_end-with _ _ (discard_pinned p) = h
+  no_end-with _ _ (discarded p x) = h
   no_end-with _ _ (page_read n p o) = h
   no_end-with _ _ (page_written n p offset bytes lsn o) = h
   no_end-with _ _ purged = h
@@ -334,6 +369,10 @@ module _ (c : Parameters) (past : Trail) (who : ℕ) (h : Stays past) where
   stays-with _ _ (flush_absent p r) = h
   stays-with _ _ (flush_clean p r u) = h
   stays-with _ _ (flush_log p) = h
+  stays-with _ _ (discard_busy p) = h
+  stays-with _ _ (discard_absent p x) = h
+  stays-with _ _ (discard_pinned p) = h
+  stays-with _ _ (discarded p x) = λ q k. member-filter (λ r. not (r == p)) (residents past) q (not_from_false (q == p) (ne_eqb q p (λ e. true≢false (sym k ∙ subst (λ y. writing past y ≡ false) (sym e) x.not_writing)))) (h q k)
   stays-with _ _ (page_read n p o) = h
   stays-with _ _ (page_written n p offset bytes lsn o) = h
   stays-with _ _ purged = h

@@ -10,22 +10,24 @@ use Rattle.bp_trail.specs.declared.entries.Call.TheVariants.{Write}
 use Rattle.bp_trail.specs.declared.entries.Reply.TheVariants.{WriteFirst}
 use Rattle.bp_trail.specs.declared.records.LogRecord.{LogRecord}
 use Rattle.bp_trail.specs.Parameters.{Parameters}
-use Rattle.bp_trail.specs.Lists.{some, every, or_less, least_since}
-use Rattle.bp_trail.specs.Event.{grant, page_of, is_write, writes, lsn_of, lsn_written, patched_by, begins, marked}
+use Rattle.bp_trail.specs.Lists.{some, every, or_less, least_since, after_last}
+use Rattle.bp_trail.specs.Event.{grant, page_of, is_write, discards, writes, lsn_of, lsn_written, patched_by, begins, marked}
 use Rattle.bp_trail.specs.Trail.{Trail}
 use Rattle.bp_trail.specs.Clock.{durable}
 use Rattle.bp_trail.specs.Passes.{passes_out}
 use Rattle.bp_trail.specs.Places.{resident}
-use Rattle.bp_trail.specs.Images.{held, plain_map}
+use Rattle.bp_trail.specs.Saved.{began_saving, settles}
+use Rattle.bp_trail.specs.Images.{held, written_into, plain_map}
 use Rattle.bp_trail.specs.Legal.{is_out, allowed, IsLawful, Legal}
 use Rattle.bp_trail.specs.Device.{HonestOf}
 use Rattle.bp_trail.specs.Recovery.{record_of, record_written, records, within, records_from, AllFit, put, redo}
-use Rattle.bp_trail.proofs.Lists.{greatest-with}
+use Rattle.bp_trail.proofs.Lists.{greatest-with, some-append}
 use Rattle.bp_trail.proofs.Events.{event-of}
 use Rattle.bp_trail.proofs.Flights.{begin-writes}
 use Rattle.bp_trail.proofs.Places.{places, out-of_page}
 use Rattle.bp_trail.proofs.Ranges.{sized}
 use Rattle.bp_trail.proofs.Content.{held-plain, sends-plain}
+use Rattle.bp_trail.proofs.Plain.{plain-is_writes}
 use Rattle.bp_trail.proofs.WriteAhead.{written_lsn, write_ahead}
 use Rattle.bp_trail.proofs.Logged.{each_before}
 use Rattle.bp_trail.proofs.Bytes.{length-put, from_lsn, Ordered, put-again, put-append}
@@ -36,19 +38,23 @@ pub record-lsn : (call : Call) → (record_of call).lsn ≡ lsn_of call
 record-lsn (Write n p offset bytes lsn) = refl
 record-lsn _ = refl
 
-record-patches : (call : Call) → is_write call ≡ true → (x : List ℕ) → patched_by call x ≡ patched (record_of call).offset (record_of call).bytes x
+pub record-patches : (call : Call) → is_write call ≡ true → (x : List ℕ) → patched_by call x ≡ patched (record_of call).offset (record_of call).bytes x
 record-patches (Write n p offset bytes lsn) h x = refl
 record-patches _ h x = cc
 
--- the plain map is what the records make
-pub plain-put : (m : ℕ → List ℕ) (p : ℕ) (past : Trail) → plain_map m past p ≡ put (records p past) (m p)
-plain-put m p [] = refl
-plain-put m p (e ∷ past) = go (writes p e) refl (plain-put m p past)
+-- the writes are what the records make
+pub written-put : (m : ℕ → List ℕ) (p : ℕ) (past : Trail) → written_into m past p ≡ put (records p past) (m p)
+written-put m p [] = refl
+written-put m p (e ∷ past) = go (writes p e) refl (written-put m p past)
   where
-    go : (b : Bool) → writes p e ≡ b → plain_map m past p ≡ put (records p past) (m p)
-        → (if b then patched_by e.call (plain_map m past p) else plain_map m past p) ≡ put (cons_option (if b then Some (record_of e.call) else None) (records p past)) (m p)
-    go true w ih = record-patches e.call (and_parts (is_write e.call) _ w).0 (plain_map m past p) ∙ ap (patched (record_of e.call).offset (record_of e.call).bytes) ih
+    go : (b : Bool) → writes p e ≡ b → written_into m past p ≡ put (records p past) (m p)
+        → (if b then patched_by e.call (written_into m past p) else written_into m past p) ≡ put (cons_option (if b then Some (record_of e.call) else None) (records p past)) (m p)
+    go true w ih = record-patches e.call (and_parts (is_write e.call) _ w).0 (written_into m past p) ∙ ap (patched (record_of e.call).offset (record_of e.call).bytes) ih
     go false w ih = ih
+
+-- so is the plain map of a page that was never discarded
+pub plain-put : (c : Parameters) (m : ℕ → List ℕ) (p : ℕ) (past : Trail) → Legal c past → some (discards p) past ≡ false → plain_map m past p ≡ put (records p past) (m p)
+plain-put c m p past l n = plain-is_writes c m past p l n ∙ written-put m p past
 
 -- an entry that does not write p has no record
 pub records-skip : (p end : ℕ) (e : Entry) (past : Trail) → writes p e ≡ false → records p (within end (e ∷ past)) ≡ records p (within end past)
@@ -153,16 +159,19 @@ placed c past who p (Write n q offset bytes lsn) l a w =
     }
 placed c past who p _ l a w = cc
 
-pub records-fit : (c : Parameters) (m : ℕ → List ℕ) (p : ℕ) (past : Trail) → Legal c past → HonestOf m p past → AllFit (length (m p)) (records p past)
-records-fit c m p [] l h = tt
-records-fit c m p (e ∷ past) l h = go (records-fit c m p past l.before h.before) (writes p e) refl
+pub records-fit : (c : Parameters) (m : ℕ → List ℕ) (p : ℕ) (past : Trail) → Legal c past → HonestOf m p past → some (discards p) past ≡ false → AllFit (length (m p)) (records p past)
+records-fit c m p [] l h n = tt
+records-fit c m p (e ∷ past) l h n = go (records-fit c m p past l.before h.before kept) (writes p e) refl
   where
+    kept : some (discards p) past ≡ false
+    kept = (or_parts (discards p e) (some (discards p) past) n).1
+
     go : AllFit (length (m p)) (records p past) → (b : Bool) → writes p e ≡ b → AllFit (length (m p)) (cons_option (if b then Some (record_of e.call) else None) (records p past))
     go older false w = older
     go older true w =
         let at = placed c past e.client p e.call l.before l.here.allowed w in
         let size : length (held past p) ≡ c.size = sized c past l.before p at.there in
-        let same : held past p ≡ put (records p past) (m p) = held-plain c m past p l.before h.before at.there ∙ plain-put m p past in
+        let same : held past p ≡ put (records p past) (m p) = held-plain c m past p l.before h.before at.there ∙ plain-put c m p past l.before kept in
         let long : length (held past p) ≡ length (m p) = ap length same ∙ length-put (length (m p)) (records p past) (m p) older refl in
         let in_page = at.inside in
         (omega arith, older)
@@ -203,6 +212,35 @@ redo-older log start from p x image unwritten newer older stands le u n fit rise
     ∙ sym (put-append unwritten (newer ++ older) x)
     ∙ ap (λ rs. put rs x) (sym stands)
 
+-- the front of a list
+pub none-front : {X : Type 0} (p : X → Bool) (whole xs ys : List X) → whole ≡ xs ++ ys → some p whole ≡ false → some p xs ≡ false
+none-front p whole xs ys stands n = (or_parts (some p xs) (some p ys) (sym (some-append p xs ys) ∙ subst (λ s. some p s ≡ false) stands n)).0
+
+pub after_last-front : {X : Type 0} (p : X → Bool) (xs ys : List X) → some p xs ≡ false → after_last p (xs ++ ys) ≡ xs ++ after_last p ys
+after_last-front p [] ys n = refl
+after_last-front p (x ∷ xs) ys n = let k = or_parts (p x) (some p xs) n in rw k.0 (ap (λ zs. x ∷ zs) (after_last-front p xs ys k.1))
+
+pub written_lsn-front : (p : ℕ) (later rest : Trail) → written_lsn p later ≤ written_lsn p (later ++ rest)
+written_lsn-front p [] rest = omega arith
+written_lsn-front p (e ∷ later) rest =
+    let h = written_lsn-front p later rest in
+    let a : written_lsn p (e ∷ later) ≡ max (unwrap_or (lsn_written p e) 0) (written_lsn p later) = greatest-with (lsn_written p) e later in
+    let b : written_lsn p (e ∷ later ++ rest) ≡ max (unwrap_or (lsn_written p e) 0) (written_lsn p (later ++ rest)) = greatest-with (lsn_written p) e (later ++ rest) in
+    omega arith
+
+-- a page after whose writes came neither a discard nor a safe write-out
+pub none-settled : (synced : Trail) (p : ℕ) (past : Trail) → some (discards p) past ≡ false → some (λ d. began_saving synced p d.reply) past ≡ false → some (settles synced p) past ≡ false
+none-settled synced p [] n b = refl
+none-settled synced p (e ∷ past) n b =
+    let k = or_parts (discards p e) (some (discards p) past) n in
+    let j = or_parts (began_saving synced p e.reply) (some (λ d. began_saving synced p d.reply) past) b in
+    rw (k.0, j.0) (none-settled synced p past k.1 j.1)
+
+-- all entries are after none
+pub none-after : {X : Type 0} (p : X → Bool) (xs : List X) → some p xs ≡ false → after_last p xs ≡ xs
+none-after p [] n = refl
+none-after p (x ∷ xs) n = let k = or_parts (p x) (some p xs) n in rw k.0 (ap (λ ys. x ∷ ys) (none-after p xs k.1))
+
 -- of an image that went out
 module _ (c : Parameters) (m : ℕ → List ℕ) (past later earlier : Trail) (e : Entry) (p t : ℕ) (image : List ℕ) (stands : past ≡ later ++ e ∷ earlier) (begins_it : e.reply ≡ WriteFirst t p image) (l : Legal c past) where
   pub legal-there : Legal c (e ∷ earlier)
@@ -213,23 +251,41 @@ module _ (c : Parameters) (m : ℕ → List ℕ) (past later earlier : Trail) (e
       let b : begins t e.reply ≡ true = rw begins_it (eq-eqb t t refl) in
       begin-writes c earlier e.client e.call e.reply (event-of c earlier e legal-there.here) t p b
 
-  pub all-logged : written_lsn p earlier ≤ durable past
-  all-logged =
-      let a = write_ahead c earlier e t p image legal-there begins_it in
-      let g = durable-grows (later ++ e ∷ []) earlier in
+  pub kept-there : some (discards p) past ≡ false → some (discards p) earlier ≡ false
+  kept-there n = (or_parts (discards p e) (some (discards p) earlier) (or_parts (some (discards p) later) _ (sym (some-append (discards p) later (e ∷ earlier)) ∙ subst (λ s. some (discards p) s ≡ false) stands n)).1).1
+
+  pub mark-grows : durable earlier ≤ durable past
+  mark-grows =
       let is : (later ++ e ∷ []) ++ earlier ≡ past = append_assoc later (e ∷ []) earlier ∙ sym stands in
-      let d : durable earlier ≤ durable past = subst (λ s. durable earlier ≤ durable s) is g in
+      subst (λ s. durable earlier ≤ durable s) is (durable-grows (later ++ e ∷ []) earlier)
+
+  pub all-logged : some (discards p) past ≡ false → written_lsn p earlier ≤ durable past
+  all-logged n =
+      let a : written_lsn p earlier ≤ durable earlier = subst (λ s. written_lsn p s ≤ durable earlier) (none-after (discards p) earlier (kept-there n)) (write_ahead c earlier e t p image legal-there begins_it) in
+      let d = mark-grows in
       omega arith
 
-  pub split : (end : ℕ) → durable past ≤ end → records p (within end past) ≡ records p (within end later) ++ records p earlier
-  split end mark =
-      let a = all-logged in
+  -- the log has the records of its writes
+  pub logged : some (discards p) past ≡ false → (end : ℕ) → durable past ≤ end → records p (within end earlier) ≡ records p earlier
+  logged n end mark = let a = all-logged n in records-whole p end earlier (omega arith)
+
+  -- and those of the writes since a discard
+  pub logged-since : (between rest : Trail) → earlier ≡ between ++ rest → some (discards p) between ≡ false → (end : ℕ) → durable past ≤ end → records p (within end between) ≡ records p between
+  logged-since between rest cut n end mark =
+      let whole : after_last (discards p) earlier ≡ between ++ after_last (discards p) rest = ap (after_last (discards p)) cut ∙ after_last-front (discards p) between rest n in
+      let a : written_lsn p (between ++ after_last (discards p) rest) ≤ durable earlier = subst (λ s. written_lsn p s ≤ durable earlier) whole (write_ahead c earlier e t p image legal-there begins_it) in
+      let f = written_lsn-front p between (after_last (discards p) rest) in
+      let d = mark-grows in
+      records-whole p end between (omega arith)
+
+  pub split : (end : ℕ) → records p (within end past) ≡ records p (within end later) ++ records p (within end earlier)
+  split end =
       ap (λ s. records p (within end s)) stands
       ∙ records-append p end later (e ∷ earlier)
-      ∙ ap (λ rs. records p (within end later) ++ rs) (records-skip p end e earlier no-write ∙ records-whole p end earlier (omega arith))
+      ∙ ap (λ rs. records p (within end later) ++ rs) (records-skip p end e earlier no-write)
 
   pub honest-there : HonestOf m p past → HonestOf m p (e ∷ earlier)
   honest-there h = each_before _ later (e ∷ earlier) (subst (HonestOf m p) stands h)
 
-  pub is-plain : HonestOf m p past → image ≡ put (records p earlier) (m p)
-  is-plain h = sends-plain c m earlier p e t image legal-there (honest-there h).before begins_it ∙ plain-put m p earlier
+  pub is-plain : some (discards p) past ≡ false → HonestOf m p past → image ≡ put (records p earlier) (m p)
+  is-plain n h = sends-plain c m earlier p e t image legal-there (honest-there h).before begins_it ∙ plain-put c m p earlier legal-there.before (kept-there n)

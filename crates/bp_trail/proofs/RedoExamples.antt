@@ -29,7 +29,7 @@ all-saved p = go (0 == p) refl
 
 checkpointed : redo (redo_point None 2) (second_record ∷ first_record ∷ []) 0 (7 ∷ 0 ∷ []) ≡ put [] (plain_map zeros (within 2 written_twice) 0)
 checkpointed =
-    checkpoint-recovers c zeros saved_once (put_at 1 8 2 ∷ []) (second_record ∷ first_record ∷ []) None 1 2 2 0 (7 ∷ 0 ∷ []) lawful-twice (from_opening honest-twice) (omega arith)
+    checkpoint-recovers c zeros saved_once (put_at 1 8 2 ∷ []) (second_record ∷ first_record ∷ []) None 1 2 2 0 (7 ∷ 0 ∷ []) lawful-twice (from_opening honest-twice refl) (omega arith)
     (record { unwritten = []; stands = refl; unwritten_from = refl }) (omega arith) (record { here = refl; before = record { here = refl; before = tt } }) all-saved
     (record { here = λ lsn e. (let is : 2 ≡ lsn = cc in omega arith); before = tt })
     (inl (record { later = put_at 1 8 2 ∷ by 0 (WriteEnd 1 0 true) Cleaned ∷ []; entry = flush_of; earlier = marked_once; ticket = 1; image = 7 ∷ 0 ∷ []; stands = refl; begins = refl; last = refl }, refl))
@@ -47,7 +47,7 @@ one-unsaved = ((0, refl), rest)
 
 checkpointed-sooner : redo (redo_point (Some 1) 2) (first_record ∷ []) 0 (0 ∷ 0 ∷ []) ≡ put [] (plain_map zeros (within 1 saved_once) 0)
 checkpointed-sooner =
-    checkpoint-recovers c zeros marked_once (by 0 (WriteEnd 1 0 true) Cleaned ∷ flush_of ∷ []) (first_record ∷ []) (Some 1) 1 2 1 0 (0 ∷ 0 ∷ []) lawful-saved (from_opening honest-saved) (omega arith)
+    checkpoint-recovers c zeros marked_once (by 0 (WriteEnd 1 0 true) Cleaned ∷ flush_of ∷ []) (first_record ∷ []) (Some 1) 1 2 1 0 (0 ∷ 0 ∷ []) lawful-saved (from_opening honest-saved refl) (omega arith)
     (record { unwritten = []; stands = refl; unwritten_from = refl }) (omega arith) (record { here = refl; before = tt }) one-unsaved
     (record { here = λ lsn e. absurd (none-some lsn e); before = record { here = λ lsn e. absurd (none-some lsn e); before = tt } })
     unsynced-has
@@ -59,7 +59,7 @@ checkpointed-sooner =
 twice-stopped : Stopped c zeros written_twice written_twice ((second_record ∷ []) ++ (first_record ∷ [])) 1 2 2 0
 twice-stopped = record {
   legal = lawful-twice;
-  gave_back = from_opening honest-twice;
+  gave_back = from_opening honest-twice refl;
   mark = omega arith;
   has = record { unwritten = []; stands = refl; unwritten_from = refl };
   from_start = omega arith;
@@ -84,7 +84,7 @@ whole-stopped = record {
     here = record { client = refl; allowed = refl; reply = inl refl };
     before = record { here = record { client = refl; allowed = refl; reply = inl refl }; before = lawful-once };
   };
-  gave_back = from_opening (record { here = λ i image h d. cc; before = record { here = λ i image h d. cc; before = honest-once } });
+  gave_back = from_opening (record { here = λ i image h d. cc; before = record { here = λ i image h d. cc; before = honest-once } }) refl;
   mark = omega arith;
   has = record { unwritten = []; stands = refl; unwritten_from = refl };
   from_start = omega arith;

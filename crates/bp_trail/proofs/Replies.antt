@@ -5,7 +5,7 @@ use Rattle.std.proofs.lemmas.List.Sums.{count_by-le-length, sum_by_more, sum_by-
 use Rattle.bp_trail.specs.declared.entries.Entry.{Entry}
 use Rattle.bp_trail.specs.declared.entries.Reply.{Reply}
 use Rattle.bp_trail.specs.declared.totals.Totals.{Totals}
-use Rattle.bp_trail.specs.Totals.{HasRoom, CountsAll, both, counted, is_eviction, is_failure, is_fault, is_hit, is_refusal, is_write, no_totals, one, replies, totals_of}
+use Rattle.bp_trail.specs.Totals.{HasRoom, CountsAll, both, counted, is_eviction, is_failure, is_fault, is_hit, is_refusal, is_discarded, is_write, no_totals, one, replies, totals_of}
 
 module _ (entries : List Entry) (i : ℕ) (e : Entry) (h : i < length entries) (is : e ≡ get_or entries i e) where
   replies-take : (test : Reply → Bool) → replies test (take (i + 1) entries) ≡ replies test (take i entries) + one (test e.reply)
@@ -13,7 +13,7 @@ module _ (entries : List Entry) (i : ℕ) (e : Entry) (h : i < length entries) (
 
   pub totals_of-take : totals_of (take (i + 1) entries) ≡ counted e.reply (totals_of (take i entries))
   unfolding totals_of
-  totals_of-take = cc (replies-take is_hit, replies-take is_fault, replies-take is_eviction, replies-take is_write, replies-take is_failure, replies-take is_refusal)
+  totals_of-take = cc (replies-take is_hit, replies-take is_fault, replies-take is_eviction, replies-take is_write, replies-take is_failure, replies-take is_refusal, replies-take is_discarded)
 
 -- there are no more replies than entries
 pub totals_of-room : (entries : List Entry) → length entries + 1 < 2 ^ 64 → HasRoom (totals_of entries)
@@ -25,6 +25,7 @@ totals_of-room entries few = record {
   writes = room is_write;
   failed = room is_failure;
   refused = room is_refusal;
+  discards = room is_discarded;
 }
   where
     room : (test : Reply → Bool) → replies test entries + 1 < 2 ^ 64
@@ -39,7 +40,7 @@ module _ (past : List Entry) (e : Entry) where
 
   pub totals_of-cons : totals_of (e ∷ past) ≡ counted e.reply (totals_of past)
   unfolding totals_of
-  totals_of-cons = cc (replies-cons is_hit, replies-cons is_fault, replies-cons is_eviction, replies-cons is_write, replies-cons is_failure, replies-cons is_refusal)
+  totals_of-cons = cc (replies-cons is_hit, replies-cons is_fault, replies-cons is_eviction, replies-cons is_write, replies-cons is_failure, replies-cons is_refusal, replies-cons is_discarded)
 
 -- of no entries
 pub counts_none : (entries : List Entry) (t : Totals) → entries ≡ [] → t ≡ no_totals → CountsAll entries t
@@ -58,7 +59,7 @@ pub counts_nothing : (past next : List Entry) (e : Entry) (t : Totals) → next 
 counts_nothing past next e t first so_far none = counts_next past next e t t first so_far (λ room. sym none)
 
 -- what `counted` makes of a reply that is in no total
-pub adds_nothing : (t : Totals) → record { hits = t.hits + 0; faults = t.faults + 0; evictions = t.evictions + 0; writes = t.writes + 0; failed = t.failed + 0; refused = t.refused + 0 } ≡ t
+pub adds_nothing : (t : Totals) → record { hits = t.hits + 0; faults = t.faults + 0; evictions = t.evictions + 0; writes = t.writes + 0; failed = t.failed + 0; refused = t.refused + 0; discards = t.discards + 0 } ≡ t
 adds_nothing t = λ i. record {
   hits = add-zero t.hits i;
   faults = add-zero t.faults i;
@@ -66,6 +67,7 @@ adds_nothing t = λ i. record {
   writes = add-zero t.writes i;
   failed = add-zero t.failed i;
   refused = add-zero t.refused i;
+  discards = add-zero t.discards i;
 }
 
 -- those of two lists, one after the other
@@ -86,4 +88,5 @@ totals_of-append xs ys = λ i. record {
   writes = replies-append is_write xs ys i;
   failed = replies-append is_failure xs ys i;
   refused = replies-append is_refusal xs ys i;
+  discards = replies-append is_discarded xs ys i;
 }

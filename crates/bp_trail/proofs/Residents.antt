@@ -11,7 +11,7 @@ use Rattle.bp_trail.specs.Places.{residents}
 use Rattle.bp_trail.specs.Legal.{Legal}
 use Rattle.bp_trail.proofs.Lists.{member, some-filter}
 use Rattle.bp_trail.proofs.Events.{Event, event-of}
-use Rattle.bp_trail.proofs.Events.Event.{ticked, marked, fix_hit, fix_load, fix_replace, fix_write, fix_busy, fix_none, fix_log, flush_busy, flush_absent, flush_clean, flush_log, flush_write, read_good, read_bad, read_wrong, write_bad, write_clean, write_dirty, page_read, page_written, unfixed, purged}
+use Rattle.bp_trail.proofs.Events.Event.{ticked, marked, fix_hit, fix_load, fix_replace, fix_write, fix_busy, fix_none, fix_log, flush_busy, flush_absent, flush_clean, flush_log, flush_write, discard_busy, discard_absent, discard_pinned, discarded, read_good, read_bad, read_wrong, write_bad, write_clean, write_dirty, page_read, page_written, unfixed, purged}
 use Rattle.bp_trail.proofs.Victim.{victim-is, candidate-resident}
 use Rattle.bp_trail.proofs.Serials.{numbered, count-rest, rest, OneSerial}
 use Rattle.bp_trail.proofs.Places.{places, out-of_page}
@@ -118,6 +118,13 @@ module _ (c : Parameters) (past : Trail) (who : ℕ) (l : Legal c past) (h : Fra
   frames-with _ _ (flush_absent p r) = h
   frames-with _ _ (flush_clean p r u) = h
   frames-with _ _ (flush_log p) = h
+  frames-with _ _ (discard_busy p) = h
+  frames-with _ _ (discard_absent p x) = h
+  frames-with _ _ (discard_pinned p) = h
+  frames-with _ _ (discarded p x) = record {
+    distinct = Distinct-filter (λ y. not (y == p)) (residents past) h.distinct;
+    within = let k = residents-rest p (residents past) x.here in let f = h.within in omega arith;
+  }
   frames-with _ _ (page_read n p o) = h
   frames-with _ _ (page_written n p offset bytes lsn o) = h
   frames-with _ _ purged = h

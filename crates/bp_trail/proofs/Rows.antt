@@ -179,12 +179,12 @@ failed_read-stamps = refl
 pub purge_after_the_period-last : last (with_k 1 2 0 10) (reverse purge_after_the_period) 1 ≡ 0
 purge_after_the_period-last = refl
 
-abbrev is_wrong_page : Reply → Bool
+abbrev pub is_wrong_page : Reply → Bool
 is_wrong_page WrongPage = true
 is_wrong_page _ = false
 
 -- a reply other than `WrongPage` is that of the table
-lawful : {A : Type 0} (call : Call) (reply : Reply) → A ⊎ FindsWrongPage call reply → is_wrong_page reply ≡ false → A
+pub lawful : {A : Type 0} (call : Call) (reply : Reply) → A ⊎ FindsWrongPage call reply → is_wrong_page reply ≡ false → A
 lawful _ _ (inl is) other = is
 lawful _ _ (inr (another_page t p)) other = absurd (let no : true ≡ false = other in cc)
 

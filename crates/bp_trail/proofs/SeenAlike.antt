@@ -7,8 +7,8 @@ use Rattle.bp_references.specs.Stamp.{IsTimed}
 use Rattle.bp_trail.specs.declared.entries.Entry.{Entry}
 use Rattle.bp_trail.specs.declared.entries.Call.{Call}
 use Rattle.bp_trail.specs.declared.entries.Reply.{Reply}
-use Rattle.bp_trail.specs.declared.entries.Call.TheVariants.{Tick, Mark, Fix, ReadEnd, WriteEnd, Read, Write, Unfix, Flush, Purge}
-use Rattle.bp_trail.specs.declared.entries.Reply.TheVariants.{Hit, Load, WriteFirst, NeedLog, Busy, Clean, Absent, Fixed, StillDirty, Cleaned, Content, Forgot}
+use Rattle.bp_trail.specs.declared.entries.Call.TheVariants.{Tick, Mark, Fix, ReadEnd, WriteEnd, Read, Write, Unfix, Flush, Discard, Purge}
+use Rattle.bp_trail.specs.declared.entries.Reply.TheVariants.{Hit, Load, WriteFirst, NeedLog, Busy, Clean, Absent, Discarded, Pinned, Fixed, StillDirty, Cleaned, Content, Forgot}
 use Rattle.bp_trail.specs.Parameters.{Parameters}
 use Rattle.bp_references.specs.Numbers.{count_below}
 use Rattle.bp_trail.specs.Lists.{some, count}
@@ -19,7 +19,7 @@ use Rattle.bp_trail.specs.Places.{residents, resident, loading, writing}
 use Rattle.bp_trail.specs.Saved.{unsaved}
 use Rattle.bp_trail.specs.References.{is_empty, references, forgets, forgotten}
 use Rattle.bp_trail.specs.Victim.{Rank, rank, before, candidate, victim}
-use Rattle.bp_trail.specs.PageMap.{has_free_frame, write_out_reply, replace_reply, fix_reply, flush_reply, reply_of, MayReply}
+use Rattle.bp_trail.specs.PageMap.{has_free_frame, write_out_reply, replace_reply, fix_reply, flush_reply, discard_reply, reply_of, MayReply}
 use Rattle.bp_trail.specs.Legal.{is_out, has_size, allowed, IsLawful, Legal}
 use Rattle.bp_trail.proofs.Same.{SameStanding}
 use Rattle.bp_trail.proofs.Lists.{member, member-filter}
@@ -122,6 +122,9 @@ module _ (c : Parameters) (s t : Trail) (l : Legal c s) (m : Legal c t) (same : 
       go true r false e = cc
       go false r true e = cc
 
+  same-discard : (p : ℕ) → discard_reply s p ≡ discard_reply t p
+  same-discard p = λ n. if same-loading p n then Busy else if not (same.places p n) then Absent else if same-writing p n then Busy else if same-pins p n == 0 then Discarded else Pinned
+
   -- the call can be made after both, and has one reply
   pub same-allowed : (who : ℕ) (call : Call) → allowed c s who call ≡ allowed c t who call
   same-allowed who (Tick n) = ap (λ x. nat_le (x + n) (2 ^ 62)) same.time
@@ -133,6 +136,7 @@ module _ (c : Parameters) (s t : Trail) (l : Legal c s) (m : Legal c t) (same : 
   same-allowed who (Mark lsn) = refl
   same-allowed who (Fix p) = refl
   same-allowed who (Flush p) = refl
+  same-allowed who (Discard p) = refl
   same-allowed who Purge = refl
 
   pinned : (who n p : ℕ) → is_out (grant who p n) (passes_out s) ≡ true → resident s p ≡ true
@@ -141,6 +145,7 @@ module _ (c : Parameters) (s t : Trail) (l : Legal c s) (m : Legal c t) (same : 
   pub same-reply : (who : ℕ) (call : Call) → allowed c s who call ≡ true → reply_of c s call ≡ reply_of c t call
   same-reply who (Fix p) a = same-fix p
   same-reply who (Flush p) a = same-flush p
+  same-reply who (Discard p) a = same-discard p
   same-reply who (ReadEnd n p None) a = refl
   same-reply who (ReadEnd n p (Some image)) a = λ i. Fixed (same.next_pass i)
   same-reply who (WriteEnd n p false) a = refl

@@ -1,8 +1,8 @@
 -- What is computed entry by entry is what the sentence says of the whole list.
-use Rattle.std.proofs.Common.{◌≡◌, refl, sym, ap, subst, ◌∙◌, ℕ, suc, ◌≤◌, nat_lt, Bool, true, false, not, ◌&&◌, ◌||◌, ◌==◌, if◌then◌else◌, cond, List, [], ◌∷◌, ◌++◌, length, filter, filter_map, Contains, Decides, Option, Some, None, inl, inr, arith}
+use Rattle.std.proofs.Common.{◌≡◌, refl, sym, ap, subst, ◌∙◌, ℕ, suc, ◌≤◌, nat_lt, Bool, true, false, not, ◌&&◌, ◌||◌, ◌==◌, if◌then◌else◌, cond, List, [], ◌∷◌, ◌++◌, length, filter, filter_map, Contains, Decides, Option, Some, None, ◌⊎◌, inl, inr, arith}
 use Rattle.std.specs.List.{cons_option}
 use Rattle.std.specs.Option.{option_map_or}
-use Rattle.std.proofs.lemmas.Bool.{true≢false, and_parts, and_from, or_parts, or_left, or_right, or_from, eqb-true, eq-eqb, ne_eqb, ltb-true, lt-ltb, not-true, not_from_false, false_from_ne_true}
+use Rattle.std.proofs.lemmas.Bool.{true≢false, and_parts, and_from, or_parts, or_cases, or_left, or_right, or_from, eqb-true, eq-eqb, ne_eqb, ltb-true, lt-ltb, not-true, not_from_false, false_from_ne_true}
 use Rattle.std.proofs.lemmas.Bool.Decides.{nat_tests}
 use Rattle.bp_references.specs.Burst.{Reference, last_time, bursts}
 use Rattle.bp_references.specs.Burst.Reference.{hit, fault}
@@ -15,48 +15,52 @@ use Rattle.bp_trail.specs.declared.entries.Entry.{Entry}
 use Rattle.bp_trail.specs.declared.entries.Call.{Call}
 use Rattle.bp_trail.specs.declared.entries.Call.TheVariants.{ReadEnd}
 use Rattle.bp_trail.specs.declared.entries.Reply.{Reply}
-use Rattle.bp_trail.specs.declared.entries.Reply.TheVariants.{Hit, Load, WriteFirst, Fixed}
+use Rattle.bp_trail.specs.declared.entries.Reply.TheVariants.{Hit, Load, WriteFirst, Fixed, Discarded}
 use Rattle.bp_trail.specs.Parameters.{Parameters}
 use Rattle.bp_trail.specs.Lists.{some, count, without, and_given, after_last, since, EachEntry}
-use Rattle.bp_trail.specs.Event.{page_of, pass_given, ticket_given, loaded, evicted, is_fixed_reply, hits, loads, writes, is_purge, written, image_read, begins_of, ends_well, lsn_written}
+use Rattle.bp_trail.specs.Event.{page_of, pass_given, ticket_given, loaded, left, is_fixed_reply, hits, loads, discards, writes, is_purge, written, image_read, begins_of, ends_well, lsn_written}
 use Rattle.bp_trail.specs.Trail.{Trail}
 use Rattle.bp_trail.specs.Clock.{clock}
 use Rattle.bp_trail.specs.Passes.{pass_of, passes, tickets, pins}
 use Rattle.bp_trail.specs.Places.{residents, resident, loading, writing}
-use Rattle.bp_trail.specs.Saved.{began_saving, unsaved, page_lsn}
-use Rattle.bp_trail.specs.Images.{held, plain_map}
+use Rattle.bp_trail.specs.Saved.{began_saving, settles, unsaved, page_lsn}
+use Rattle.bp_trail.specs.Images.{held, written_into}
 use Rattle.bp_trail.specs.References.{is_empty, references, forgets, last, hist}
 use Rattle.bp_trail.specs.Victim.{rank, before, candidate, victim, Rank}
 use Rattle.bp_trail.specs.Legal.{Legal}
 use Rattle.bp_trail.specs.Device.{due_among, due_with}
-use Rattle.bp_trail.specs.Sentences.{Lasts, AreAfterLast, IsGreatest, evicts, pass_number, gives_pass, begins_operation, IsNext, IsNew, with_before, reference_at, forgot_at, references_since, IsForgotten, IsCandidate, IsFirst, IsUnsaved}
+use Rattle.bp_trail.specs.Sentences.{Lasts, AreAfterLast, IsGreatest, leaves, pass_number, gives_pass, begins_operation, IsNext, IsNew, with_before, reference_at, forgot_at, references_since, IsForgotten, IsCandidate, IsFirst, IsUnsaved}
 use Rattle.bp_trail.proofs.Elements.{contains-cases, contains-none, passing, some-contained, after-last-only, since-lasts, greatest-is}
 use Rattle.bp_trail.proofs.Events.{Event, event-of}
-use Rattle.bp_trail.proofs.Events.Event.{fix_hit, fix_load, fix_replace, fix_write, flush_write, read_good, purged}
+use Rattle.bp_trail.proofs.Events.Event.{fix_hit, fix_load, fix_replace, fix_write, flush_write, discard_absent, discarded, read_good, purged}
 use Rattle.bp_trail.proofs.Victim.{victim-is, no-victim}
 use Rattle.bp_trail.proofs.Residents.{left-none, left-other}
-use Rattle.bp_trail.proofs.Lists.{member, some-append}
+use Rattle.bp_trail.proofs.Lists.{member, some-append, some-mono}
 
 -- ---- places
 
-resident-since : (p : ℕ) (past : Trail) → resident past p ≡ since (loads p) (evicts p) past
+resident-since : (p : ℕ) (past : Trail) → resident past p ≡ since (loads p) (leaves p) past
 resident-since p [] = refl
-resident-since p (e ∷ past) = go e.reply (page_of e.call) (residents past) (since (loads p) (evicts p) past) (resident-since p past)
+resident-since p (e ∷ past) = go e.reply (page_of e.call) (residents past) (since (loads p) (leaves p) past) (resident-since p past)
   where
-    go : (r : Reply) (q : ℕ) (xs : List ℕ) (b : Bool) → member p xs ≡ b
-        → member p (and_given (loaded q r) (without (λ x. x) (evicted r) xs)) ≡ ((is_fixed_reply r && (q == p)) || (not (option_map_or (λ v. v == p) (evicted r) false) && b))
-    go (Fixed n) q xs b h = ap (λ x. (q == p) || x) h
-    go (Load t None) q xs b h = h
-    go (Load t (Some v)) q xs b h = at (v == p) refl
+    gone : (v : ℕ) (xs : List ℕ) (b : Bool) → member p xs ≡ b → member p (filter (λ x. not (x == v)) xs) ≡ (not (v == p) && b)
+    gone v xs b h = at (v == p) refl
       where
         at : (d : Bool) → (v == p) ≡ d → member p (filter (λ x. not (x == v)) xs) ≡ (not d && b)
         at true i = subst (λ x. member p (filter (λ y. not (y == x)) xs) ≡ false) (sym (eqb-true v p i)) (left-none p xs)
         at false i = left-other v p (ne_eqb p v (λ e. true≢false (sym (eq-eqb v p (sym e)) ∙ i))) xs ∙ h
+
+    go : (r : Reply) (q : ℕ) (xs : List ℕ) (b : Bool) → member p xs ≡ b
+        → member p (and_given (loaded q r) (without (λ x. x) (left q r) xs)) ≡ ((is_fixed_reply r && (q == p)) || (not (option_map_or (λ v. v == p) (left q r) false) && b))
+    go (Fixed n) q xs b h = ap (λ x. (q == p) || x) h
+    go (Load t None) q xs b h = h
+    go (Load t (Some v)) q xs b h = gone v xs b h
+    go Discarded q xs b h = gone q xs b h
     go _ q xs b h = h
 
-pub resident-lasts : (past : Trail) (p : ℕ) → Decides (resident past p) (Lasts (loads p) (evicts p) past)
+pub resident-lasts : (past : Trail) (p : ℕ) → Decides (resident past p) (Lasts (loads p) (leaves p) past)
 resident-lasts past p =
-    let d = since-lasts (loads p) (evicts p) past in
+    let d = since-lasts (loads p) (leaves p) past in
     (λ h. d.0 (sym (resident-since p past) ∙ h), λ w. resident-since p past ∙ d.1 w)
 
 since-itself : (test : Entry → Bool) (past : Trail) → some test past ≡ true → since test test past ≡ true
@@ -165,22 +169,41 @@ purge-quiet : (c : Parameters) (past : Trail) (who : ℕ) (call : Call) (reply :
 purge-quiet c past who _ _ purged p i = (refl, refl)
 purge-quiet c past who _ _ _ p i = cc
 
+discard-quiet : (c : Parameters) (past : Trail) (who : ℕ) (call : Call) (reply : Reply) → Event c past who call reply → (p : ℕ) → discards p (record { client = who; call = call; reply = reply }) ≡ true
+    → (hits p (record { client = who; call = call; reply = reply }) ≡ false) × (loads p (record { client = who; call = call; reply = reply }) ≡ false)
+discard-quiet c past who _ _ (discard_absent q x) p i = (refl, refl)
+discard-quiet c past who _ _ (discarded q x) p i = (refl, refl)
+discard-quiet c past who _ _ _ p i = cc
+
 pub references-are : (c : Parameters) (past : Trail) (p : ℕ) → Legal c past → references c past p ≡ references_since c past p
 references-are c [] p l = refl
-references-are c (e ∷ past) p l = go (hits p e) refl (loads p e) refl (forgot_at c p (e, past)) refl (references-are c past p l.before)
+references-are c (e ∷ past) p l = go (hits p e) refl (loads p e) refl (discards p e) refl (is_purge e.call && forgets c past p (references c past p)) refl (references-are c past p l.before)
   where
-    quiet : forgot_at c p (e, past) ≡ true → (hits p e ≡ false) × (loads p e ≡ false)
-    quiet f = purge-quiet c past e.client e.call e.reply (event-of c past e l.here) p (and_parts (is_purge e.call) _ f).0
+    event : Event c past e.client e.call e.reply
+    event = event-of c past e l.here
 
-    go : (h : Bool) → hits p e ≡ h → (l : Bool) → loads p e ≡ l → (f : Bool) → forgot_at c p (e, past) ≡ f → references c past p ≡ references_since c past p
-        → (if h then hit (clock past) ∷ references c past p else if l then fault (clock past) ∷ references c past p else if f then [] else references c past p)
-        ≡ filter_map (reference_at p) (if f then [] else (e, past) ∷ after_last (forgot_at c p) (with_before past))
-    go true i l j true k ih = absurd (true≢false (sym i ∙ (quiet k).0))
-    go false i true j true k ih = absurd (true≢false (sym j ∙ (quiet k).1))
-    go false i false j true k ih = refl
-    go true i l j false k ih = ap (λ r. hit (clock past) ∷ r) ih ∙ ap (λ b. cons_option (if b then Some (hit (clock past)) else if loads p e then Some (fault (clock past)) else None) (references_since c past p)) (sym i)
-    go false i true j false k ih = ap (λ r. fault (clock past) ∷ r) ih ∙ ap (λ b. cons_option (if b then Some (fault (clock past)) else None) (references_since c past p)) (sym j) ∙ ap (λ b. cons_option (if b then Some (hit (clock past)) else if loads p e then Some (fault (clock past)) else None) (references_since c past p)) (sym i)
-    go false i false j false k ih = ih ∙ ap (λ b. cons_option (if b then Some (fault (clock past)) else None) (references_since c past p)) (sym j) ∙ ap (λ b. cons_option (if b then Some (hit (clock past)) else if loads p e then Some (fault (clock past)) else None) (references_since c past p)) (sym i)
+    quiet : (is_purge e.call && forgets c past p (references c past p)) ≡ true → (hits p e ≡ false) × (loads p e ≡ false)
+    quiet f = purge-quiet c past e.client e.call e.reply event p (and_parts (is_purge e.call) _ f).0
+
+    unquoted : (h : Bool) → hits p e ≡ h → (l : Bool) → loads p e ≡ l → references c past p ≡ references_since c past p
+        → (if h then hit (clock past) ∷ references c past p else if l then fault (clock past) ∷ references c past p else references c past p)
+        ≡ cons_option (if h then Some (hit (clock past)) else if l then Some (fault (clock past)) else None) (references_since c past p)
+    unquoted true i l j ih = ap (λ r. hit (clock past) ∷ r) ih
+    unquoted false i true j ih = ap (λ r. fault (clock past) ∷ r) ih
+    unquoted false i false j ih = ih
+
+    go : (h : Bool) → hits p e ≡ h → (l : Bool) → loads p e ≡ l → (d : Bool) → discards p e ≡ d → (f : Bool) → (is_purge e.call && forgets c past p (references c past p)) ≡ f → references c past p ≡ references_since c past p
+        → (if h then hit (clock past) ∷ references c past p else if l then fault (clock past) ∷ references c past p else if d then [] else if f then [] else references c past p)
+        ≡ filter_map (reference_at p) (if d || f then [] else (e, past) ∷ after_last (forgot_at c p) (with_before past))
+    go true i l j true k f n ih = absurd (true≢false (sym i ∙ (discard-quiet c past e.client e.call e.reply event p k).0))
+    go false i true j true k f n ih = absurd (true≢false (sym j ∙ (discard-quiet c past e.client e.call e.reply event p k).1))
+    go false i false j true k f n ih = refl
+    go true i l j false k true n ih = absurd (true≢false (sym i ∙ (quiet n).0))
+    go false i true j false k true n ih = absurd (true≢false (sym j ∙ (quiet n).1))
+    go false i false j false k true n ih = refl
+    go true i l j false k false n ih = rw i (unquoted true i l j ih)
+    go false i true j false k false n ih = rw (i, j) (unquoted false i true j ih)
+    go false i false j false k false n ih = rw (i, j) (unquoted false i false j ih)
 
 pub known-none : (rs : List Reference) → is_empty rs ≡ true → rs ≡ []
 known-none [] h = refl
@@ -272,9 +295,13 @@ begin-of : (past : Trail) (p : ℕ) (r : Reply) → began_saving past p r ≡ tr
 begin-of past p (WriteFirst t q image) h = let a = and_parts (q == p) _ h in record { ticket = t; image = image; is = ap (λ x. WriteFirst t x image) (eqb-true q p a.0); well = a.1 }
 begin-of past p _ h = cc
 
+-- an entry that settles p discards it, or begins a write-out of it that ended well
+settled-by : (past : Trail) (p : ℕ) (d : Entry) → settles past p d ≡ true → (discards p d ≡ true) ⊎ Begin past p d.reply
+settled-by past p d h = elim (or_cases (discards p d) (began_saving past p d.reply) h) as (λ _. (discards p d ≡ true) ⊎ Begin past p d.reply) [ inl i ↦ inl i | inr j ↦ inr (begin-of past p d.reply j) ]
+
 pub unsaved-decides : (past : Trail) (p : ℕ) → Decides (unsaved past p) (IsUnsaved past p)
 unsaved-decides past p =
-    let d = since-lasts (writes p) (λ e. began_saving past p e.reply) past in (
+    let d = since-lasts (writes p) (settles past p) past in (
       λ h. let w = d.0 h in
           record {
             later = w.later;
@@ -282,7 +309,9 @@ unsaved-decides past p =
             earlier = w.earlier;
             stands = w.stands;
             writes = w.starts;
-            not_saved = λ b t image k i. saved-at past p b.reply t image i (false_from_ne_true (began_saving past p b.reply) (λ m. true≢false (sym (some-contained (λ e. began_saving past p e.reply) w.later b k m) ∙ w.lasts)));
+            not_discarded = false_from_ne_true (some (discards p) w.later) (λ m. true≢false (sym (some-mono (discards p) (settles past p) w.later (λ x i. or_left (discards p x) (began_saving past p x.reply) i) m) ∙ w.lasts));
+            not_saved = λ b t image k i. saved-at past p b.reply t image i
+                (false_from_ne_true (began_saving past p b.reply) (λ m. true≢false (sym (some-contained (settles past p) w.later b k (or_right (discards p b) (began_saving past p b.reply) m)) ∙ w.lasts)));
           },
       λ w. d.1 (record {
         later = w.later;
@@ -290,7 +319,10 @@ unsaved-decides past p =
         earlier = w.earlier;
         stands = w.stands;
         starts = w.writes;
-        lasts = false_from_ne_true (some (λ e. began_saving past p e.reply) w.later) (λ m. let x = passing (λ e. began_saving past p e.reply) w.later m in let b = begin-of past p x.element.reply x.passes in true≢false (sym b.well ∙ w.not_saved x.element b.ticket b.image x.inside b.is));
+        lasts = false_from_ne_true (some (settles past p) w.later) (λ m. let x = passing (settles past p) w.later m in elim (settled-by past p x.element x.passes) as (λ _. ⊥) [
+          | inl gone ↦ true≢false (sym (some-contained (discards p) w.later x.element x.inside gone) ∙ w.not_discarded)
+          | inr b ↦ true≢false (sym b.well ∙ w.not_saved x.element b.ticket b.image x.inside b.is)
+        ]);
       }),
     )
 
@@ -299,24 +331,24 @@ page_lsn-greatest past newest p a = subst (λ s. IsGreatest (filter_map (lsn_wri
 
 -- ---- images
 
-pub held-is : (later earlier : Trail) (e : Entry) (t p n : ℕ) (image : List ℕ) → e.call ≡ ReadEnd t p (Some image) → e.reply ≡ Fixed n → some (loads p) later ≡ false → held (later ++ e ∷ earlier) p ≡ plain_map (λ q. image) later p
+pub held-is : (later earlier : Trail) (e : Entry) (t p n : ℕ) (image : List ℕ) → e.call ≡ ReadEnd t p (Some image) → e.reply ≡ Fixed n → some (loads p) later ≡ false → held (later ++ e ∷ earlier) p ≡ written_into (λ q. image) later p
 held-is [] earlier e t p n image i j h = rw (i, j, eq-eqb p p refl) refl
 held-is (d ∷ later) earlier e t p n image i j h =
     let parts = or_parts (loads p d) (some (loads p) later) h in
     ap (λ b. if b then image_read d.call else written p d (held (later ++ e ∷ earlier) p)) parts.0 ∙ ap (written p d) (held-is later earlier e t p n image i j parts.1)
 
 -- a reply that begins no write-out of p
-due-kept : (whole : Trail) (p : ℕ) (r : Reply) (older : Option (List ℕ)) → begins_of p r ≡ false → due_with whole p r older ≡ older
+pub due-kept : (whole : Trail) (p : ℕ) (r : Reply) (older : Option (List ℕ)) → begins_of p r ≡ false → due_with whole p r older ≡ older
 due-kept whole p (WriteFirst t q image) older h = ap (λ b. if b then (if some (λ e. ends_well t e.call) whole then Some image else None) else older) h
 due-kept whole p _ older h = refl
 
-pub due-opening : (whole : Trail) (m : ℕ → List ℕ) (past : Trail) (p : ℕ) → some (λ e. begins_of p e.reply) past ≡ false → due_among whole m past p ≡ Some (m p)
+pub due-opening : (whole : Trail) (m : ℕ → Option (List ℕ)) (past : Trail) (p : ℕ) → some (λ e. begins_of p e.reply) past ≡ false → due_among whole m past p ≡ m p
 due-opening whole m [] p h = refl
 due-opening whole m (e ∷ past) p h =
     let parts = or_parts (begins_of p e.reply) _ h in
     due-kept whole p e.reply (due_among whole m past p) parts.0 ∙ due-opening whole m past p parts.1
 
-pub due-begun : (whole : Trail) (m : ℕ → List ℕ) (later earlier : Trail) (e : Entry) (t p : ℕ) (image : List ℕ) → e.reply ≡ WriteFirst t p image → some (λ e. begins_of p e.reply) later ≡ false
+pub due-begun : (whole : Trail) (m : ℕ → Option (List ℕ)) (later earlier : Trail) (e : Entry) (t p : ℕ) (image : List ℕ) → e.reply ≡ WriteFirst t p image → some (λ e. begins_of p e.reply) later ≡ false
     → due_among whole m (later ++ e ∷ earlier) p ≡ (if some (λ d. ends_well t d.call) whole then Some image else None)
 due-begun whole m [] earlier e t p image i h = ap (λ r. due_with whole p r (due_among whole m earlier p)) i ∙ ap (λ b. if b then (if some (λ d. ends_well t d.call) whole then Some image else None) else due_among whole m earlier p) (eq-eqb p p refl)
 due-begun whole m (d ∷ later) earlier e t p image i h =

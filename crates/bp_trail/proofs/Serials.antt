@@ -12,7 +12,7 @@ use Rattle.bp_trail.specs.Passes.{passes, tickets, passes_out, reads_out, writes
 use Rattle.bp_trail.specs.Legal.{is_out, Legal}
 use Rattle.bp_trail.proofs.Lists.{some-filter, some-mono}
 use Rattle.bp_trail.proofs.Events.{Event, event-of}
-use Rattle.bp_trail.proofs.Events.Event.{ticked, marked, fix_hit, fix_load, fix_replace, fix_write, fix_busy, fix_none, fix_log, flush_busy, flush_absent, flush_clean, flush_log, flush_write, read_good, read_bad, read_wrong, write_bad, write_clean, write_dirty, page_read, page_written, unfixed, purged}
+use Rattle.bp_trail.proofs.Events.Event.{ticked, marked, fix_hit, fix_load, fix_replace, fix_write, fix_busy, fix_none, fix_log, flush_busy, flush_absent, flush_clean, flush_log, flush_write, discard_busy, discard_absent, discard_pinned, discarded, read_good, read_bad, read_wrong, write_bad, write_clean, write_dirty, page_read, page_written, unfixed, purged}
 
 abbrev pub has_serial : ℕ → Grant → Bool
 has_serial n g = g.serial == n
@@ -172,6 +172,10 @@ module _ (c : Parameters) (past : Trail) (who : ℕ) (h : Numbered past) where
   numbered-with _ _ (flush_absent p r) = h
   numbered-with _ _ (flush_clean p r u) = h
   numbered-with _ _ (flush_log p) = h
+  numbered-with _ _ (discard_busy p) = h
+  numbered-with _ _ (discard_absent p x) = h
+  numbered-with _ _ (discard_pinned p) = h
+  numbered-with _ _ (discarded p x) = h
   numbered-with _ _ (page_read n p o) = h
   numbered-with _ _ (page_written n p offset bytes lsn o) = h
   numbered-with _ _ purged = h

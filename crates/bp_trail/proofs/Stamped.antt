@@ -1,5 +1,5 @@
 -- Redo by page LSN: an image has the writes up to its page LSN, and no others.
-use Rattle.std.proofs.Common.{◌≡◌, inl, inr, refl, sym, ap, subst, ◌∙◌, ℕ, ◌+◌, max, ◌≤◌, ◌<◌, nat_lt, nat_le, Bool, true, false, not, ◌&&◌, ◌||◌, ◌==◌, if◌then◌else◌, cond, List, [], ◌∷◌, ◌++◌, length, filter, filter_map, append_assoc, append-nil, unwrap_or, Some, None, arith}
+use Rattle.std.proofs.Common.{◌≡◌, inl, inr, refl, sym, ap, subst, ◌∙◌, ℕ, ◌+◌, max, ◌≤◌, ◌<◌, nat_lt, nat_le, Bool, true, false, not, ◌&&◌, ◌||◌, ◌==◌, if◌then◌else◌, cond, List, [], ◌∷◌, ◌++◌, length, filter, filter_map, append_assoc, append-nil, unwrap_or, Option, Some, None, arith}
 use Rattle.std.specs.List.{cons_option}
 use Rattle.std.proofs.lemmas.List.Elements.{filter-append}
 use Rattle.std.proofs.lemmas.Bool.{eqb-true, eq-eqb, and_parts, and_from, ltb-true, ltb-false, lt-ltb, le-ltb, leb-true, leb-false, le-leb, lt-leb, cases_lt, false_from_ne_true}
@@ -9,15 +9,16 @@ use Rattle.bp_trail.specs.declared.entries.Call.{Call}
 use Rattle.bp_trail.specs.declared.entries.Reply.{Reply}
 use Rattle.bp_trail.specs.declared.records.LogRecord.{LogRecord}
 use Rattle.bp_trail.specs.Parameters.{Parameters}
-use Rattle.bp_trail.specs.Lists.{greatest, every, after_last, since, least_since}
-use Rattle.bp_trail.specs.Event.{writes, loads, lsn_of, lsn_written, begins_of}
+use Rattle.bp_trail.specs.Lists.{greatest, some, every, after_last, since, least_since}
+use Rattle.bp_trail.specs.Event.{discards, writes, loads, lsn_of, lsn_written, begins_of}
 use Rattle.bp_trail.specs.Trail.{Trail}
+use Rattle.bp_trail.specs.Clock.{durable}
 use Rattle.bp_trail.specs.Passes.{reads_out}
 use Rattle.bp_trail.specs.Places.{resident}
-use Rattle.bp_trail.specs.Saved.{began_saving, unsaved, page_lsn}
+use Rattle.bp_trail.specs.Saved.{began_saving, settles, unsaved, page_lsn}
 use Rattle.bp_trail.specs.Legal.{Legal}
 use Rattle.bp_trail.specs.Standing.{Content}
-use Rattle.bp_trail.specs.Recovery.{record_of, records, within, wanted, records_from, AllFit, Rise, patch, put, apply_newer, apply_all_newer, redo, redo_by_lsn, AppliesAlike, GaveBack, TellsNew, MayHaveStamped, Stopped}
+use Rattle.bp_trail.specs.Recovery.{record_of, records, within, wanted, records_from, AllFit, Rise, patch, put, apply_newer, apply_all_newer, redo, redo_by_lsn, AppliesAlike, UsedAgain, GaveBack, TellsNew, WentOut, MayHaveStamped, Stopped}
 use Rattle.bp_trail.specs.Recovery.GaveBack.{from_opening, since_used_again}
 use Rattle.bp_trail.proofs.Lists.{greatest-with}
 use Rattle.bp_trail.proofs.Events.{Event, event-of}
@@ -25,25 +26,45 @@ use Rattle.bp_trail.proofs.Events.Event.{fix_write, flush_write, read_good, page
 use Rattle.bp_trail.proofs.Places.{places, out-of_page, unsaved-ended}
 use Rattle.bp_trail.proofs.WriteAhead.{written_lsn}
 use Rattle.bp_trail.proofs.Logged.{each_before}
-use Rattle.bp_trail.proofs.Bytes.{length-patched, patched-whole, from_lsn, none-older, put-append}
-use Rattle.bp_trail.proofs.Recovered.{record-lsn, every-within, AtLeast, later-from, wanted-split, legal-there, split}
-use Rattle.bp_trail.proofs.Redoing.{HasRecords, Overwritten, has-records, has-again, over-newer, over-between, over-cut, over-put, within-fit}
+use Rattle.bp_trail.proofs.Bytes.{length-patched, patched-whole, full-bytes, filter-fit, from_lsn, none-older}
+use Rattle.bp_trail.proofs.Recovered.{record-lsn, records-skip, records-append, every-within, AtLeast, later-from, none-front, none-settled, wanted-split, legal-there, no-write, mark-grows, split}
+use Rattle.bp_trail.proofs.Redoing.{HasRecords, Overwritten, has-logged, has-again, records-write, again-cut, again-fit, again-wanted}
 
 abbrev entry : ℕ → Call → Reply → Entry
 entry who call reply = record { client = who; call = call; reply = reply }
 
 -- ---- the page LSN of what goes out
 
-pub page_lsn-less : (p : ℕ) (past : Trail) → page_lsn past p ≤ written_lsn p past
-page_lsn-less p [] = omega arith
-page_lsn-less p (e ∷ past) = go (loads p e) (page_lsn-less p past)
+-- where the log reaches it, the page LSN is that of a record
+pub page_lsn-less : (p end : ℕ) (past : Trail) → page_lsn past p ≤ end → page_lsn past p ≤ written_lsn p (within end past)
+page_lsn-less p end [] h = omega arith
+page_lsn-less p end (e ∷ past) h = go (loads p e) (nat_le (lsn_of e.call) end) refl (writes p e) refl h (page_lsn-less p end past)
   where
-    go : (b : Bool) → page_lsn past p ≤ written_lsn p past → greatest (filter_map (lsn_written p) (if b then [] else e ∷ after_last (loads p) past)) ≤ written_lsn p (e ∷ past)
-    go true ih = omega arith
-    go false ih =
+    go : (b k : Bool) → nat_le (lsn_of e.call) end ≡ k → (w : Bool) → writes p e ≡ w → greatest (filter_map (lsn_written p) (if b then [] else e ∷ after_last (loads p) past)) ≤ end
+        → (page_lsn past p ≤ end → page_lsn past p ≤ written_lsn p (within end past))
+        → greatest (filter_map (lsn_written p) (if b then [] else e ∷ after_last (loads p) past)) ≤ written_lsn p (cond k (e ∷ within end past) (within end past))
+    go true k j w i h ih = omega arith
+    go false true j w i h ih =
+        let top : written_lsn p (e ∷ after_last (loads p) past) ≤ end = h in
         let x : written_lsn p (e ∷ after_last (loads p) past) ≡ max (unwrap_or (lsn_written p e) 0) (page_lsn past p) = greatest-with (lsn_written p) e (after_last (loads p) past) in
-        let w : written_lsn p (e ∷ past) ≡ max (unwrap_or (lsn_written p e) 0) (written_lsn p past) = greatest-with (lsn_written p) e past in
-        let goal : written_lsn p (e ∷ after_last (loads p) past) ≤ written_lsn p (e ∷ past) = omega arith in
+        let y : written_lsn p (e ∷ within end past) ≡ max (unwrap_or (lsn_written p e) 0) (written_lsn p (within end past)) = greatest-with (lsn_written p) e (within end past) in
+        let older = ih (omega arith) in
+        let goal : written_lsn p (e ∷ after_last (loads p) past) ≤ written_lsn p (e ∷ within end past) = omega arith in
+        goal
+    go false false j true i h ih =
+        let top : written_lsn p (e ∷ after_last (loads p) past) ≤ end = h in
+        let is : lsn_written p e ≡ Some (lsn_of e.call) = ap (λ b. if b then Some (lsn_of e.call) else None) i in
+        let x : written_lsn p (e ∷ after_last (loads p) past) ≡ max (lsn_of e.call) (page_lsn past p) =
+        subst (λ o. written_lsn p (e ∷ after_last (loads p) past) ≡ max (unwrap_or o 0) (page_lsn past p)) is (greatest-with (lsn_written p) e (after_last (loads p) past)) in
+        let beyond = leb-false (lsn_of e.call) end j in
+        absurd (omega arith)
+    go false false j false i h ih =
+        let top : written_lsn p (e ∷ after_last (loads p) past) ≤ end = h in
+        let is : lsn_written p e ≡ None = ap (λ b. if b then Some (lsn_of e.call) else None) i in
+        let x : written_lsn p (e ∷ after_last (loads p) past) ≡ max 0 (page_lsn past p) =
+        subst (λ o. written_lsn p (e ∷ after_last (loads p) past) ≡ max (unwrap_or o 0) (page_lsn past p)) is (greatest-with (lsn_written p) e (after_last (loads p) past)) in
+        let older = ih (omega arith) in
+        let goal : written_lsn p (e ∷ after_last (loads p) past) ≤ written_lsn p (within end past) = omega arith in
         goal
 
 -- a bound on the records of p is one on its LSNs
@@ -107,47 +128,60 @@ pub write-no_load : (c : Parameters) (past : Trail) (who : ℕ) (call : Call) (r
 write-no_load c past who _ _ (page_written n q offset bytes lsn o) p h = refl
 write-no_load c past who _ _ _ p h = cc
 
--- the page LSN of an unsaved page is the greatest LSN of all of its writes, where these rise
-pub lsn-top : (c : Parameters) (p : ℕ) (past : Trail) → Legal c past → Rise (records p past) → unsaved past p ≡ true → page_lsn past p ≡ written_lsn p past
-lsn-top c p [] l r u = cc
-lsn-top c p (e ∷ past) l r u = go (writes p e) refl (lsn-top c p past l.before) r u
+-- an entry that does not write p leaves the greatest LSN
+lsn-skip : (p end : ℕ) (e : Entry) (past : Trail) → lsn_written p e ≡ None → written_lsn p (within end (e ∷ past)) ≡ written_lsn p (within end past)
+lsn-skip p end e past is = go (nat_le (lsn_of e.call) end)
   where
-    told : written_lsn p (e ∷ past) ≡ max (unwrap_or (lsn_written p e) 0) (written_lsn p past)
-    told = greatest-with (lsn_written p) e past
+    go : (k : Bool) → written_lsn p (cond k (e ∷ within end past) (within end past)) ≡ written_lsn p (within end past)
+    go true = ap (λ (o : Option ℕ). greatest (cons_option o (filter_map (lsn_written p) (within end past)))) is
+    go false = refl
 
+-- the page LSN of an unsaved page is the greatest LSN of its writes in the log, where these rise and the log reaches it
+pub lsn-top : (c : Parameters) (p end : ℕ) (past : Trail) → Legal c past → Rise (records p (within end past)) → unsaved past p ≡ true → page_lsn past p ≤ end → page_lsn past p ≡ written_lsn p (within end past)
+lsn-top c p end [] l r u le = cc
+lsn-top c p end (e ∷ past) l r u le = go (writes p e) refl (lsn-top c p end past l.before) u
+  where
     since_load : written_lsn p (e ∷ after_last (loads p) past) ≡ max (unwrap_or (lsn_written p e) 0) (page_lsn past p)
     since_load = greatest-with (lsn_written p) e (after_last (loads p) past)
 
-    go : (b : Bool) → writes p e ≡ b → (Rise (records p past) → unsaved past p ≡ true → page_lsn past p ≡ written_lsn p past)
-        → Rise (cons_option (if b then Some (record_of e.call) else None) (records p past))
-        → (b || (not (began_saving (e ∷ past) p e.reply) && since (writes p) (λ d. began_saving (e ∷ past) p d.reply) past)) ≡ true
-        → page_lsn (e ∷ past) p ≡ written_lsn p (e ∷ past)
-    go true w ih rise u =
-        let no_load = write-no_load c past e.client e.call e.reply (event-of c past e l.here) p w in
+    page_lsn-is : loads p e ≡ false → page_lsn (e ∷ past) p ≡ written_lsn p (e ∷ after_last (loads p) past)
+    page_lsn-is no_load = ap (λ (b : Bool). greatest (filter_map (lsn_written p) (if b then [] else e ∷ after_last (loads p) past))) no_load
+
+    go : (b : Bool) → writes p e ≡ b → (Rise (records p (within end past)) → unsaved past p ≡ true → page_lsn past p ≤ end → page_lsn past p ≡ written_lsn p (within end past))
+        → (b || (not (settles (e ∷ past) p e) && since (writes p) (settles (e ∷ past) p) past)) ≡ true
+        → page_lsn (e ∷ past) p ≡ written_lsn p (within end (e ∷ past))
+    go true w ih u =
+        let here = page_lsn-is (write-no_load c past e.client e.call e.reply (event-of c past e l.here) p w) in
         let is : lsn_written p e ≡ Some (lsn_of e.call) = ap (λ b. if b then Some (lsn_of e.call) else None) w in
-        let x : written_lsn p (e ∷ past) ≡ max (lsn_of e.call) (written_lsn p past) = subst (λ o. written_lsn p (e ∷ past) ≡ max (unwrap_or o 0) (written_lsn p past)) is told in
         let y : written_lsn p (e ∷ after_last (loads p) past) ≡ max (lsn_of e.call) (page_lsn past p) = subst (λ o. written_lsn p (e ∷ after_last (loads p) past) ≡ max (unwrap_or o 0) (page_lsn past p)) is since_load in
-        let same = record-lsn e.call in
-        let less = page_lsn-less p past in
-        let top : written_lsn p past ≤ lsn_of e.call = rises (lsn_of e.call) same rise.here in
-        let equal : written_lsn p (e ∷ after_last (loads p) past) ≡ written_lsn p (e ∷ past) = omega arith in
-        ap (λ (b : Bool). greatest (filter_map (lsn_written p) (if b then [] else e ∷ after_last (loads p) past))) no_load ∙ equal
+        let reached : written_lsn p (e ∷ after_last (loads p) past) ≤ end = subst (λ n. n ≤ end) here le in
+        let inside : lsn_of e.call ≤ end = omega arith in
+        let older = page_lsn-less p end past (omega arith) in
+        let kept : nat_le (lsn_of e.call) end ≡ true = le-leb (lsn_of e.call) end inside in
+        let x : written_lsn p (within end (e ∷ past)) ≡ max (lsn_of e.call) (written_lsn p (within end past)) =
+        ap (λ (k : Bool). written_lsn p (cond k (e ∷ within end past) (within end past))) kept
+        ∙ subst (λ o. written_lsn p (e ∷ within end past) ≡ max (unwrap_or o 0) (written_lsn p (within end past))) is (greatest-with (lsn_written p) e (within end past)) in
+        let rise : Rise (record_of e.call ∷ records p (within end past)) = subst Rise (records-write p end e past w inside) r in
+        let top : written_lsn p (within end past) ≤ lsn_of e.call = rises (lsn_of e.call) (record-lsn e.call) rise.here in
+        let equal : written_lsn p (e ∷ after_last (loads p) past) ≡ max (lsn_of e.call) (written_lsn p (within end past)) = omega arith in
+        here ∙ equal ∙ sym x
       where
-        rises : (n : ℕ) → (record_of e.call).lsn ≡ n → every (λ o. nat_lt o.lsn (record_of e.call).lsn) (records p past) ≡ true → written_lsn p past ≤ n
+        rises : (n : ℕ) → (record_of e.call).lsn ≡ n → every (λ o. nat_lt o.lsn (record_of e.call).lsn) (records p (within end past)) ≡ true → written_lsn p (within end past) ≤ n
         rises n same h = elim (cases_lt 0 n) [
-          | inl pos ↦ (let lt = lsn-below p n past (subst (λ k. every (λ o. nat_lt o.lsn k) (records p past) ≡ true) same h) pos in omega arith)
-          | inr none ↦ (let z : (record_of e.call).lsn ≡ 0 = omega arith in let empty = below-zero (records p past) (record_of e.call).lsn z h in let k = lsn-none p past empty in omega arith)
+          | inl pos ↦ (let lt = lsn-below p n (within end past) (subst (λ k. every (λ o. nat_lt o.lsn k) (records p (within end past)) ≡ true) same h) pos in omega arith)
+          | inr none ↦ (let z : (record_of e.call).lsn ≡ 0 = omega arith in let empty = below-zero (records p (within end past)) (record_of e.call).lsn z h in let k = lsn-none p (within end past) empty in omega arith)
         ]
-    go false w ih rise u =
-        let s = unsaved-ended past e p (and_parts (not (began_saving (e ∷ past) p e.reply)) _ u).1 in
+    go false w ih u =
+        let s = unsaved-ended past e p (and_parts (not (settles (e ∷ past) p e)) _ u).1 in
         let is : lsn_written p e ≡ None = ap (λ b. if b then Some (lsn_of e.call) else None) w in
-        let x : written_lsn p (e ∷ past) ≡ max 0 (written_lsn p past) = subst (λ o. written_lsn p (e ∷ past) ≡ max (unwrap_or o 0) (written_lsn p past)) is told in
-        let y : written_lsn p (e ∷ after_last (loads p) past) ≡ max 0 (page_lsn past p) = subst (λ o. written_lsn p (e ∷ after_last (loads p) past) ≡ max (unwrap_or o 0) (page_lsn past p)) is since_load in
-        let same = ih rise s in
-        let equal : written_lsn p (e ∷ after_last (loads p) past) ≡ written_lsn p (e ∷ past) = omega arith in
-        let here = (places c past l.before).dirty p s in
+        let there = (places c past l.before).dirty p s in
         let no_load : loads p e ≡ false = false_from_ne_true (loads p e) (λ h. (let away = load-away c past e.client e.call e.reply l.before (event-of c past e l.here) p h in cc)) in
-        ap (λ (b : Bool). greatest (filter_map (lsn_written p) (if b then [] else e ∷ after_last (loads p) past))) no_load ∙ equal
+        let here = page_lsn-is no_load in
+        let y : written_lsn p (e ∷ after_last (loads p) past) ≡ max 0 (page_lsn past p) = subst (λ o. written_lsn p (e ∷ after_last (loads p) past) ≡ max (unwrap_or o 0) (page_lsn past p)) is since_load in
+        let reached : written_lsn p (e ∷ after_last (loads p) past) ≤ end = subst (λ n. n ≤ end) here le in
+        let same = ih (subst Rise (records-skip p end e past w) r) s (omega arith) in
+        let equal : written_lsn p (e ∷ after_last (loads p) past) ≡ written_lsn p (within end past) = omega arith in
+        here ∙ equal ∙ sym (lsn-skip p end e past is)
 
 -- ---- redo by page LSN
 
@@ -210,12 +244,12 @@ newer-above p least earlier (r ∷ newer) rise h =
 -- The first record of a page that is used again makes it anew: over images of its size, on which
 -- records were acted that lie within it
 abbrev Anew : {size : ℕ} {first : ℕ → List ℕ} {end : ℕ} {past : Trail} {p : ℕ} → (LogRecord → List ℕ → List ℕ) → GaveBack size first end past p → Type 0
-Anew apply (GaveBack.from_opening honest) = Unit {0}
+Anew apply (GaveBack.from_opening honest kept) = Unit {0}
 Anew {size} apply (GaveBack.since_used_again u) =
     (rs : List LogRecord) (x : Content) → AllFit size rs → length x.image ≡ size → apply (record_of u.entry.call) (apply_all_newer apply rs x).image ≡ (record_of u.entry.call).bytes
 
 tells-anew : {size : ℕ} {first : ℕ → List ℕ} {end : ℕ} {past : Trail} {p : ℕ} (apply : LogRecord → List ℕ → List ℕ) (g : GaveBack size first end past p) → TellsNew apply g → Anew apply g
-tells-anew apply (from_opening honest) t = tt
+tells-anew apply (from_opening honest kept) t = tt
 tells-anew apply (since_used_again u) t = λ rs x f is. t (apply_all_newer apply rs x).image
 
 length-newer : (size : ℕ) (rs : List LogRecord) (x : Content) → AllFit size rs → length x.image ≡ size → length (apply_all_newer patch rs x).image ≡ size
@@ -228,7 +262,7 @@ length-newer size (r ∷ rs) x f is = go (nat_lt (apply_all_newer patch rs x).pa
     go false ih = ih
 
 patch-anew : {size : ℕ} {first : ℕ → List ℕ} {end : ℕ} {past : Trail} {p : ℕ} (g : GaveBack size first end past p) → Anew patch g
-patch-anew (from_opening honest) = tt
+patch-anew (from_opening honest kept) = tt
 patch-anew {size} (since_used_again u) = λ rs x f is.
     let w = record_of u.entry.call in
     patched-whole w.offset w.bytes (apply_all_newer patch rs x).image u.offset (u.bytes ∙ sym (length-newer size rs x f is))
@@ -270,42 +304,44 @@ pub rise-above : (newer older : List LogRecord) (r : LogRecord) → Rise (newer 
 rise-above [] older r h = refl
 rise-above (o ∷ newer) older r h = and_from _ _ (and_parts (nat_lt r.lsn o.lsn) _ (every-append (λ k. nat_lt k.lsn o.lsn) newer (r ∷ older) h.here).1).0 (rise-above newer older r h.before)
 
-stamped-over : (apply : LogRecord → List ℕ → List ℕ) (log : List LogRecord) (start from end size p : ℕ) (first : ℕ → List ℕ) (x : Content) (unwritten : List LogRecord) (write : Entry) (later earlier : Trail)
-    → Overwritten size first end p write later earlier x.image
-    → records_from start log p ≡ unwritten ++ (records p (within end later) ++ records p earlier) → start ≤ from → every (from_lsn from) unwritten ≡ true → every (from_lsn from) (records p (within end later)) ≡ true
-    → every (λ r. nat_le r.lsn x.page_lsn) (records p earlier) ≡ true → Rise (unwritten ++ records p (within end later)) → every (λ r. nat_lt x.page_lsn r.lsn) (unwritten ++ records p (within end later)) ≡ true
-    → AppliesAlike apply (records_from start log p) (first p) → ((rs : List LogRecord) → AllFit size rs → apply (record_of write.call) (apply_all_newer apply rs x).image ≡ (record_of write.call).bytes)
-    → (redo_by_lsn apply from log p x).image ≡ redo start log p (first p)
-stamped-over apply log start from end size p first x unwritten write later earlier o stands le u n below rise above alike new =
-    let older = records p earlier in
-    let nl = over-newer size first end p write later earlier x.image o in
-    let nk = over-between size first end p write later earlier x.image o in
-    let w = record_of write.call in
-    let z = apply_all_newer apply nk x in
+stamped-over : (apply : LogRecord → List ℕ → List ℕ) (log : List LogRecord) (start from size p : ℕ) (first : List ℕ) (x : Content) (unwritten newer older : List LogRecord) (w : LogRecord)
+    → records_from start log p ≡ unwritten ++ (newer ++ w ∷ older) → start ≤ from → every (from_lsn from) unwritten ≡ true → every (from_lsn from) (newer ++ w ∷ []) ≡ true
+    → w.offset ≡ 0 → length w.bytes ≡ size → AllFit size older → length first ≡ size → Rise (records_from start log p) → x.page_lsn < w.lsn
+    → AppliesAlike apply (records_from start log p) first → ((rs : List LogRecord) → AllFit size rs → apply w (apply_all_newer apply rs x).image ≡ w.bytes)
+    → (redo_by_lsn apply from log p x).image ≡ redo start log p first
+stamped-over apply log start from size p first x unwritten newer older w stands le u n offset bytes fit opening rises lt alike new =
+    let f = filter (from_lsn from) in
+    let front = unwritten ++ newer in
+    let joined : records_from start log p ≡ unwritten ++ ((newer ++ w ∷ []) ++ older) = stands ∙ ap (λ rs. unwritten ++ rs) (sym (append_assoc newer (w ∷ []) older)) in
+    let wants : records_from from log p ≡ front ++ w ∷ f older =
+    wanted-split log start from p unwritten (newer ++ w ∷ []) older joined le u n ∙ ap (λ rs. unwritten ++ rs) (append_assoc newer (w ∷ []) (f older)) ∙ sym (append_assoc unwritten newer (w ∷ f older)) in
+    let all : records_from start log p ≡ front ++ w ∷ older = stands ∙ sym (append_assoc unwritten newer (w ∷ older)) in
+    let rising : Rise (front ++ w ∷ older) = subst Rise all rises in
+    let z = apply_all_newer apply (f older) x in
     let y : Content = record { image = apply w z.image; page_lsn = w.lsn } in
-    let cut : unwritten ++ records p (within end later) ≡ (unwritten ++ nl) ++ w ∷ nk = ap (λ rs. unwritten ++ rs) (over-cut size first end p write later earlier x.image o) ∙ sym (append_assoc unwritten nl (w ∷ nk)) in
-    let rising : Rise ((unwritten ++ nl) ++ w ∷ nk) = subst Rise cut rise in
-    let all_above = (every-append (λ r. nat_lt x.page_lsn r.lsn) (unwritten ++ nl) (w ∷ nk) (subst (λ rs. every (λ r. nat_lt x.page_lsn r.lsn) rs ≡ true) cut above)).1 in
-    let lt = newer-below apply nk x w.lsn (ltb-true x.page_lsn w.lsn (and_parts (nat_lt x.page_lsn w.lsn) _ all_above).0) (each_before _ (unwritten ++ nl) (w ∷ nk) rising).here in
-    let applied : apply_newer apply w z ≡ y = ap (λ (b : Bool). if b then y else z) (lt-ltb z.page_lsn w.lsn lt) in
-    let made : apply_all_newer apply ((unwritten ++ nl) ++ w ∷ nk) x ≡ apply_all_newer apply (unwritten ++ nl) y = apply_all_newer-append apply (unwritten ++ nl) (w ∷ nk) x ∙ ap (apply_all_newer apply (unwritten ++ nl)) applied in
-    let has : y.image ≡ put (w ∷ (nk ++ older)) (first p) =
-    new nk (within-fit size p end o.between o.between_fit) ∙ sym (over-put size first end p write later earlier x.image o older (first p) o.earlier_fit o.opening) ∙ sym (put-append (w ∷ nk) older (first p)) in
-    let joined : records_from start log p ≡ (unwritten ++ nl) ++ w ∷ (nk ++ older) =
-    stands ∙ sym (append_assoc unwritten (records p (within end later)) older) ∙ ap (λ rs. rs ++ older) cut ∙ append_assoc (unwritten ++ nl) (w ∷ nk) older in
-    ap (λ (y : Content). y.image) (stamped-newer apply log start from p x unwritten (records p (within end later)) older stands le u n below ∙ ap (λ rs. apply_all_newer apply rs x) cut ∙ made)
-    ∙ (all-newer apply (unwritten ++ nl) (w ∷ (nk ++ older)) (first p) y has (rise-front (unwritten ++ nl) (w ∷ nk) rising) (rise-above (unwritten ++ nl) nk w rising) (subst (λ rs. AppliesAlike apply rs (first p)) joined alike)).image_is
-    ∙ ap (λ rs. put rs (first p)) (sym joined)
+    let older_below = every-filtered (λ o. nat_lt o.lsn w.lsn) (from_lsn from) older (each_before _ front (w ∷ older) rising).here in
+    let below = newer-below apply (f older) x w.lsn lt older_below in
+    let applied : apply_newer apply w z ≡ y = ap (λ (b : Bool). if b then y else z) (lt-ltb z.page_lsn w.lsn below) in
+    let has : y.image ≡ put (w ∷ older) first = new (f older) (filter-fit size (from_lsn from) older fit) ∙ sym (full-bytes w older size first offset bytes fit opening) in
+    ap (λ (y : Content). y.image)
+    (ap (λ rs. apply_all_newer apply rs x) wants ∙ apply_all_newer-append apply front (w ∷ f older) x ∙ ap (apply_all_newer apply front) applied)
+    ∙ (all-newer apply front (w ∷ older) first y has (rise-front front (w ∷ older) rising) (rise-above front older w rising) (subst (λ rs. AppliesAlike apply rs first) all alike)).image_is
+    ∙ ap (λ rs. put rs first) (sym all)
 
 pub begin-unsaved : (c : Parameters) (past : Trail) (who : ℕ) (call : Call) (reply : Reply) → Event c past who call reply → (p : ℕ) → begins_of p reply ≡ true → unsaved past p ≡ true
 begin-unsaved c past who _ _ (fix_write q v m w g) p h = subst (λ x. unsaved past x ≡ true) (eqb-true v p h) g.unsaved_page
 begin-unsaved c past who _ _ (flush_write v r w g) p h = subst (λ x. unsaved past x ≡ true) (eqb-true v p h) g.unsaved_page
 begin-unsaved c past who _ _ _ p h = cc
 
+pub begin-logged : (c : Parameters) (past : Trail) (who : ℕ) (call : Call) (reply : Reply) → Event c past who call reply → (p : ℕ) → begins_of p reply ≡ true → page_lsn past p ≤ durable past
+begin-logged c past who _ _ (fix_write q v m w g) p h = subst (λ x. page_lsn past x ≤ durable past) (eqb-true v p h) g.logged
+begin-logged c past who _ _ (flush_write v r w g) p h = subst (λ x. page_lsn past x ≤ durable past) (eqb-true v p h) g.logged
+begin-logged c past who _ _ _ p h = cc
+
 recovers-anew : (apply : LogRecord → List ℕ → List ℕ) (c : Parameters) (first : ℕ → Content) (synced past : Trail) (log : List LogRecord) (start from end p : ℕ) (x : Content)
     → (s : Stopped c (λ q. (first q).image) synced past log start from end p) → Rise (records_from start log p) → every (λ r. nat_lt (first p).page_lsn r.lsn) (records_from start log p) ≡ true
     → AppliesAlike apply (records_from start log p) (first p).image → Anew apply s.gave_back → MayHaveStamped first synced past p x → (redo_by_lsn apply from log p x).image ≡ redo start log p (first p).image
-recovers-anew apply c first synced past log start from end p x s rises firsts alike new (inl (out, is)) = go s.gave_back new
+recovers-anew apply c first synced past log start from end p x s rises firsts alike new may = go s.gave_back new may
   where
     m : ℕ → List ℕ
     m q = (first q).image
@@ -313,65 +349,91 @@ recovers-anew apply c first synced past log start from end p x s rises firsts al
     u : List LogRecord
     u = s.has.unwritten
 
-    newer : List LogRecord
-    newer = records p (within end out.later)
+    -- an image that went out has the page LSN of the newest record before it
+    whole : (out : WentOut synced past p) → records_from start log p ≡ u ++ (records p (within end out.later) ++ records p (within end out.earlier))
+    whole out = s.has.stands ∙ ap (λ rs. u ++ rs) (split c m past out.later out.earlier out.entry p out.ticket out.image out.stands out.begins s.legal end)
 
-    older : List LogRecord
-    older = records p out.earlier
+    joined : (out : WentOut synced past p) → records_from start log p ≡ (u ++ records p (within end out.later)) ++ records p (within end out.earlier)
+    joined out = whole out ∙ sym (append_assoc u (records p (within end out.later)) (records p (within end out.earlier)))
 
-    whole : records_from start log p ≡ u ++ (newer ++ older)
-    whole = s.has.stands ∙ ap (λ rs. u ++ rs) (split c m past out.later out.earlier out.entry p out.ticket out.image out.stands out.begins s.legal end s.mark)
-
-    joined : records_from start log p ≡ (u ++ newer) ++ older
-    joined = whole ∙ sym (append_assoc u newer older)
-
-    rising : Rise ((u ++ newer) ++ older)
-    rising = subst Rise joined rises
-
-    all_newer : every (from_lsn from) newer ≡ true
-    all_newer =
-        let point : AtLeast from (least_since (lsn_written p) (λ d. began_saving synced p d.reply) (out.later ++ out.entry ∷ out.earlier)) = subst (λ s. AtLeast from (least_since (lsn_written p) (λ d. began_saving synced p d.reply) s)) out.stands s.point in
-        every-within (from_lsn from) p end out.later (later-from from p (λ d. began_saving synced p d.reply) out.later (out.entry ∷ out.earlier) out.last point)
-
-    lsn : x.page_lsn ≡ written_lsn p out.earlier
-    lsn =
+    lsn : (out : WentOut synced past p) → x ≡ record { image = out.image; page_lsn = page_lsn out.earlier p } → x.page_lsn ≡ written_lsn p (within end out.earlier)
+    lsn out is =
         let there = legal-there c m past out.later out.earlier out.entry p out.ticket out.image out.stands out.begins s.legal in
         let begins : begins_of p out.entry.reply ≡ true = rw out.begins (eq-eqb p p refl) in
-        let dirty = begin-unsaved c out.earlier out.entry.client out.entry.call out.entry.reply (event-of c out.earlier out.entry there.here) p begins in
-        ap (λ (y : Content). y.page_lsn) is ∙ lsn-top c p out.earlier there.before (each_before _ (u ++ newer) older rising) dirty
+        let event = event-of c out.earlier out.entry there.here in
+        let dirty = begin-unsaved c out.earlier out.entry.client out.entry.call out.entry.reply event p begins in
+        let behind = begin-logged c out.earlier out.entry.client out.entry.call out.entry.reply event p begins in
+        let grows = mark-grows c m past out.later out.earlier out.entry p out.ticket out.image out.stands out.begins s.legal in
+        let mark = s.mark in
+        let rising = each_before _ (u ++ records p (within end out.later)) (records p (within end out.earlier)) (subst Rise (joined out) rises) in
+        ap (λ (y : Content). y.page_lsn) is ∙ lsn-top c p end out.earlier there.before rising dirty (omega arith)
 
-    image : x.image ≡ out.image
-    image = ap (λ (y : Content). y.image) is
+    has : (out : WentOut synced past p) → x ≡ record { image = out.image; page_lsn = page_lsn out.earlier p } → HasRecords (m p) (records p (within end out.earlier)) out.image → some (discards p) out.later ≡ false
+        → (redo_by_lsn apply from log p x).image ≡ redo start log p (first p).image
+    has out is h kept =
+        let newer = records p (within end out.later) in
+        let older = records p (within end out.earlier) in
+        let rising : Rise ((u ++ newer) ++ older) = subst Rise (joined out) rises in
+        let point : AtLeast from (least_since (lsn_written p) (settles synced p) (out.later ++ out.entry ∷ out.earlier)) = subst (λ s. AtLeast from (least_since (lsn_written p) (settles synced p) s)) out.stands s.point in
+        let all_newer = every-within (from_lsn from) p end out.later (later-from from p (settles synced p) out.later (out.entry ∷ out.earlier) (none-settled synced p out.later kept out.last) point) in
+        let same = lsn out is in
+        let below = records-below p x.page_lsn (within end out.earlier) (omega arith) in
+        let firsts_newer = (every-append (λ r. nat_lt (first p).page_lsn r.lsn) (u ++ newer) older (subst (λ rs. every (λ r. nat_lt (first p).page_lsn r.lsn) rs ≡ true) (joined out) firsts)).0 in
+        let above = subst (λ n. every (λ r. nat_lt n r.lsn) (u ++ newer) ≡ true) (sym same) (newer-above p (first p).page_lsn (within end out.earlier) (u ++ newer) rising firsts_newer) in
+        stamped-older apply log start from p (first p).image x u newer older (whole out) s.from_start s.has.unwritten_from all_newer (ap (λ (y : Content). y.image) is ∙ h.image_is) below (rise-front (u ++ newer) older rising) above alike
 
-    below : every (λ r. nat_le r.lsn x.page_lsn) older ≡ true
-    below = let same = lsn in records-below p x.page_lsn out.earlier (omega arith)
+    -- of the write by which the page was used again
+    again : (a : UsedAgain c.size m end past p) → records_from start log p ≡ u ++ (records p (within end a.later) ++ record_of a.entry.call ∷ records p (within end a.earlier))
+    again a = s.has.stands ∙ ap (λ rs. u ++ rs) (again-cut c m end past p s.legal a)
 
-    above : every (λ r. nat_lt x.page_lsn r.lsn) (u ++ newer) ≡ true
-    above =
-        let firsts_newer = (every-append (λ r. nat_lt (first p).page_lsn r.lsn) (u ++ newer) older (subst (λ rs. every (λ r. nat_lt (first p).page_lsn r.lsn) rs ≡ true) joined firsts)).0 in
-        subst (λ n. every (λ r. nat_lt n r.lsn) (u ++ newer) ≡ true) (sym lsn) (newer-above p (first p).page_lsn out.earlier (u ++ newer) rising firsts_newer)
+    first-below : (a : UsedAgain c.size m end past p) → (first p).page_lsn < (record_of a.entry.call).lsn
+    first-below a =
+        let newer = records p (within end a.later) in
+        let w = record_of a.entry.call in
+        let rest = w ∷ records p (within end a.earlier) in
+        let tail = (every-append (λ r. nat_lt (first p).page_lsn r.lsn) u (newer ++ rest) (subst (λ rs. every (λ r. nat_lt (first p).page_lsn r.lsn) rs ≡ true) (again a) firsts)).1 in
+        ltb-true (first p).page_lsn w.lsn (and_parts (nat_lt (first p).page_lsn w.lsn) _ (every-append (λ r. nat_lt (first p).page_lsn r.lsn) newer rest tail).1).0
 
-    has : HasRecords m p out.earlier out.image → (redo_by_lsn apply from log p x).image ≡ redo start log p (first p).image
-    has h =
-        stamped-older apply log start from p (first p).image x u newer older whole s.from_start s.has.unwritten_from all_newer (image ∙ h.image_is) below (rise-front (u ++ newer) older rising) above alike
+    older-below : (a : UsedAgain c.size m end past p) (out : WentOut synced past p) → x ≡ record { image = out.image; page_lsn = page_lsn out.earlier p }
+        → Overwritten c.size synced p a.later a.earlier out.earlier out.entry out.image → x.page_lsn < (record_of a.entry.call).lsn
+    older-below a out is o =
+        let newer = records p (within end a.later) in
+        let w = record_of a.entry.call in
+        let older = records p (within end a.earlier) in
+        let below : every (λ r. nat_lt r.lsn w.lsn) older ≡ true = (each_before _ newer (w ∷ older) (each_before _ u (newer ++ w ∷ older) (subst Rise (again a) rises))).here in
+        let cut : older ≡ records p (within end o.between) ++ records p (within end out.earlier) =
+        ap (λ s. records p (within end s)) o.rest ∙ records-append p end o.between (out.entry ∷ out.earlier)
+        ∙ ap (λ rs. records p (within end o.between) ++ rs) (records-skip p end out.entry out.earlier (no-write c m past out.later out.earlier out.entry p out.ticket out.image out.stands out.begins s.legal)) in
+        let sent = (every-append (λ r. nat_lt r.lsn w.lsn) (records p (within end o.between)) (records p (within end out.earlier)) (subst (λ rs. every (λ r. nat_lt r.lsn w.lsn) rs ≡ true) cut below)).1 in
+        let positive = first-below a in
+        let same = lsn out is in
+        let lt = lsn-below p w.lsn (within end out.earlier) sent (omega arith) in
+        omega arith
 
-    go : (g : GaveBack c.size m end past p) → Anew apply g → (redo_by_lsn apply from log p x).image ≡ redo start log p (first p).image
-    go (from_opening honest) new = has (has-records c m synced past p out s.legal honest)
-    go (since_used_again again) new = elim (has-again c m synced end past p out s.legal again) [
-      | inl h ↦ has h
-      | inr o ↦ stamped-over apply log start from end c.size p m x u again.entry out.later out.earlier (subst (Overwritten c.size m end p again.entry out.later out.earlier) (sym image) o)
-          whole s.from_start s.has.unwritten_from all_newer below (rise-front (u ++ newer) older rising) above alike (λ rs f. new rs x f (ap length image ∙ o.image_size))
+    over : (a : UsedAgain c.size m end past p) → ((rs : List LogRecord) → AllFit c.size rs → apply (record_of a.entry.call) (apply_all_newer apply rs x).image ≡ (record_of a.entry.call).bytes)
+        → some (λ d. began_saving synced p d.reply) a.later ≡ false → x.page_lsn < (record_of a.entry.call).lsn → (redo_by_lsn apply from log p x).image ≡ redo start log p (first p).image
+    over a new last lt =
+        stamped-over apply log start from c.size p (first p).image x u (records p (within end a.later)) (records p (within end a.earlier)) (record_of a.entry.call)
+        (again a) s.from_start s.has.unwritten_from (again-wanted c m end past p s.legal a synced from s.point last) a.offset a.bytes (again-fit c m end past p s.legal a) a.opening rises lt alike new
+
+    go : (g : GaveBack c.size m end past p) → Anew apply g → MayHaveStamped first synced past p x → (redo_by_lsn apply from log p x).image ≡ redo start log p (first p).image
+    go (from_opening honest kept) new (inl (out, is)) = has out is (has-logged c m synced past p out s.legal honest kept end s.mark) (none-front (discards p) past out.later (out.entry ∷ out.earlier) out.stands kept)
+    go (from_opening honest kept) new (inr (none, is)) =
+        let newer = records p (within end past) in
+        let stands : records_from start log p ≡ u ++ (newer ++ []) = s.has.stands ∙ ap (λ rs. u ++ rs) (sym (append-nil newer)) in
+        let point : AtLeast from (least_since (lsn_written p) (settles synced p) (past ++ [])) = subst (λ s. AtLeast from (least_since (lsn_written p) (settles synced p) s)) (sym (append-nil past)) s.point in
+        stamped-older apply log start from p (first p).image x u newer [] stands s.from_start s.has.unwritten_from
+        (every-within (from_lsn from) p end past (later-from from p (settles synced p) past [] (none-settled synced p past kept none) point))
+        (ap (λ (y : Content). y.image) is) refl (subst Rise s.has.stands rises)
+        (subst (λ (y : Content). every (λ r. nat_lt y.page_lsn r.lsn) (u ++ newer) ≡ true) (sym is) (subst (λ rs. every (λ r. nat_lt (first p).page_lsn r.lsn) rs ≡ true) s.has.stands firsts))
+        alike
+    go (since_used_again a) new (inl (out, is)) = elim (has-again c m synced end past p out s.legal s.mark a) [
+      | inl h ↦ has out is h.has h.kept
+      | inr o ↦ over a (λ rs f. new rs x f (ap (λ (y : Content). length y.image) is ∙ o.image_size)) o.last (older-below a out is o)
     ]
-recovers-anew apply c first synced past log start from end p x s rises firsts alike new (inr (none, is)) =
-    let u = s.has.unwritten in
-    let newer = records p (within end past) in
-    let whole : records_from start log p ≡ u ++ (newer ++ []) = s.has.stands ∙ ap (λ rs. u ++ rs) (sym (append-nil newer)) in
-    let point : AtLeast from (least_since (lsn_written p) (λ d. began_saving synced p d.reply) (past ++ [])) = subst (λ s. AtLeast from (least_since (lsn_written p) (λ d. began_saving synced p d.reply) s)) (sym (append-nil past)) s.point in
-    stamped-older apply log start from p (first p).image x u newer [] whole s.from_start s.has.unwritten_from
-    (every-within (from_lsn from) p end past (later-from from p (λ d. began_saving synced p d.reply) past [] none point))
-    (ap (λ (y : Content). y.image) is) refl (subst Rise s.has.stands rises)
-    (subst (λ (y : Content). every (λ r. nat_lt y.page_lsn r.lsn) (u ++ newer) ≡ true) (sym is) (subst (λ rs. every (λ r. nat_lt (first p).page_lsn r.lsn) rs ≡ true) s.has.stands firsts))
-    alike
+    go (since_used_again a) new (inr (none, is)) =
+        over a (λ rs f. new rs x f (ap (λ (y : Content). length y.image) is ∙ a.opening)) (none-front (λ d. began_saving synced p d.reply) past a.later (a.entry ∷ a.earlier) a.stands none)
+        (subst (λ (y : Content). y.page_lsn < (record_of a.entry.call).lsn) (sym is) (first-below a))
 
 pub recovers-by_lsn : (apply : LogRecord → List ℕ → List ℕ) (c : Parameters) (first : ℕ → Content) (synced past : Trail) (log : List LogRecord) (start from end p : ℕ) (x : Content)
     → (s : Stopped c (λ q. (first q).image) synced past log start from end p) → Rise (records_from start log p) → every (λ r. nat_lt (first p).page_lsn r.lsn) (records_from start log p) ≡ true

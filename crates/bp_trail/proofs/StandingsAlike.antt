@@ -6,12 +6,12 @@ use Rattle.bp_references.specs.Alike.{Alike}
 use Rattle.bp_references.proofs.Alike.{alike-hit, alike-fault}
 use Rattle.bp_trail.specs.declared.entries.Entry.{Entry}
 use Rattle.bp_trail.specs.declared.entries.Call.{Call}
-use Rattle.bp_trail.specs.declared.entries.Call.TheVariants.{WriteEnd, Write}
+use Rattle.bp_trail.specs.declared.entries.Call.TheVariants.{WriteEnd, Write, Discard}
 use Rattle.bp_trail.specs.declared.entries.Reply.{Reply}
 use Rattle.bp_trail.specs.declared.entries.Reply.TheVariants.{WriteFirst, Fixed, Cleaned, StillDirty}
 use Rattle.bp_trail.specs.Parameters.{Parameters}
 use Rattle.bp_trail.specs.Lists.{greatest, some, after_last, and_given, without}
-use Rattle.bp_trail.specs.Event.{Grant, grant, same_grant, page_of, ticks, marked, ticket_given, pass_back, read_ticket_back, write_ticket_back, write_ticket_given, ends_well, begins, loaded, evicted, hits, loads, is_purge, writes, lsn_written, written, image_read}
+use Rattle.bp_trail.specs.Event.{Grant, grant, same_grant, page_of, ticks, marked, ticket_given, pass_back, read_ticket_back, write_ticket_back, write_ticket_given, ends_well, begins, is_away_reply, loaded, left, hits, loads, discards, is_purge, writes, lsn_written, written, image_read}
 use Rattle.bp_trail.specs.Trail.{Trail}
 use Rattle.bp_trail.specs.Clock.{clock}
 use Rattle.bp_trail.specs.Passes.{tickets, pass_of, read_ticket_of, write_ticket_of, writes_out}
@@ -40,12 +40,12 @@ one-test false true f g = g refl
 one-test false false f g = refl
 
 -- the pages left, and those with one more
-left : (k : ℕ → Bool) (p : ℕ) (xs ys : List ℕ) → (member p xs ≡ true → member p ys ≡ true) → member p (filter k xs) ≡ true → member p (filter k ys) ≡ true
-left k p xs ys h m = member-filter k ys p (every-at k (filter k xs) p (every-filter k xs) m) (h (some-filter (λ q. q == p) k xs m))
+kept-member : (k : ℕ → Bool) (p : ℕ) (xs ys : List ℕ) → (member p xs ≡ true → member p ys ≡ true) → member p (filter k xs) ≡ true → member p (filter k ys) ≡ true
+kept-member k p xs ys h m = member-filter k ys p (every-at k (filter k xs) p (every-filter k xs) m) (h (some-filter (λ q. q == p) k xs m))
 
 same-left : (o : Option ℕ) (p : ℕ) (xs ys : List ℕ) → member p xs ≡ member p ys → member p (without (λ q. q) o xs) ≡ member p (without (λ q. q) o ys)
 same-left None p xs ys h = h
-same-left (Some v) p xs ys h = one-test _ _ (left (λ q. not (q == v)) p xs ys (λ m. sym h ∙ m)) (left (λ q. not (q == v)) p ys xs (λ m. h ∙ m))
+same-left (Some v) p xs ys h = one-test _ _ (kept-member (λ q. not (q == v)) p xs ys (λ m. sym h ∙ m)) (kept-member (λ q. not (q == v)) p ys xs (λ m. h ∙ m))
 
 same-given : (o : Option ℕ) (p : ℕ) (xs ys : List ℕ) → member p xs ≡ member p ys → member p (and_given o xs) ≡ member p (and_given o ys)
 same-given None p xs ys h = h
@@ -60,10 +60,11 @@ same-length {Y = Y} f x xs ys h = go (f x) refl
     go (Some y) e = rw e (ap suc h)
 
 -- what an entry leaves unsaved
-abbrev unsaved_with : Trail → Call → ℕ → Bool
-unsaved_with s (Write n p offset bytes lsn) q = (p == q) || unsaved s q
-unsaved_with s (WriteEnd n p true) q = if p == q then written_since s n p else unsaved s q
-unsaved_with s _ q = unsaved s q
+abbrev unsaved_with : Trail → Call → Reply → ℕ → Bool
+unsaved_with s (Write n p offset bytes lsn) r q = (p == q) || unsaved s q
+unsaved_with s (WriteEnd n p true) r q = if p == q then written_since s n p else unsaved s q
+unsaved_with s (Discard p) r q = not ((is_away_reply r && (p == q)) || false) && unsaved s q
+unsaved_with s _ r q = unsaved s q
 
 module _ (c : Parameters) (s : Trail) (who : ℕ) (l : Legal c s) where
   begun-unsaved : (v q : ℕ) → (not ((v == q) && some (λ e. ends_well (tickets s) e.call) s) && unsaved s q) ≡ unsaved s q
@@ -85,7 +86,7 @@ module _ (c : Parameters) (s : Trail) (who : ℕ) (l : Legal c s) where
   flying : (n p : ℕ) → is_out (grant who p n) (writes_out s) ≡ true → in_flight n p s ≡ true
   flying n p o = in-flight-of (λ t p. in_flight t p s) who p n (writes_out s) (flights c s l).begun o
 
-  unsaved-after : (call : Call) (reply : Reply) → Event c s who call reply → (q : ℕ) → unsaved (entry who call reply ∷ s) q ≡ unsaved_with s call q
+  unsaved-after : (call : Call) (reply : Reply) → Event c s who call reply → (q : ℕ) → unsaved (entry who call reply ∷ s) q ≡ unsaved_with s call reply q
   unsaved-after _ _ (fix_write p v m w g) q = begun-unsaved v q
   unsaved-after _ _ (flush_write p r w g) q = begun-unsaved p q
   unsaved-after _ _ (write_clean n p o w) q = ended n p q Cleaned o (unsaved-cleaned c s who n p l o) (λ e. since-other c n p q s e s who Cleaned (flying n p o))
@@ -94,10 +95,10 @@ module _ (c : Parameters) (s : Trail) (who : ℕ) (l : Legal c s) where
 
 -- a page that an entry doesn't load was resident before it
 was-resident : (s : Trail) (p : ℕ) (e : Entry) → loads p e ≡ false → resident (e ∷ s) p ≡ true → resident s p ≡ true
-was-resident s p e h r = some-without (λ q. q == p) (λ q. q) (evicted e.reply) (residents s) (go e.reply h r)
+was-resident s p e h r = some-without (λ q. q == p) (λ q. q) (left (page_of e.call) e.reply) (residents s) (go e.reply h r)
   where
-    go : (reply : Reply) → loads p (entry e.client e.call reply) ≡ false → member p (and_given (loaded (page_of e.call) reply) (without (λ q. q) (evicted e.reply) (residents s))) ≡ true
-        → member p (without (λ q. q) (evicted e.reply) (residents s)) ≡ true
+    go : (reply : Reply) → loads p (entry e.client e.call reply) ≡ false → member p (and_given (loaded (page_of e.call) reply) (without (λ q. q) (left (page_of e.call) e.reply) (residents s))) ≡ true
+        → member p (without (λ q. q) (left (page_of e.call) e.reply) (residents s)) ≡ true
     go (Fixed n) h r = rw h at r
     go _ h r = r
 
@@ -128,20 +129,21 @@ module _ (c : Parameters) (s t : Trail) (l : Legal c s) (m : Legal c t) (same : 
   alike p = record { last = same.lasts p; stamps = λ i. same.stamps p i }
 
   alike-after : (p : ℕ) → Alike c.k c.correlated (references c (e ∷ s) p) (references c (e ∷ t) p)
-  alike-after p = go (hits p e) (loads p e) (is_purge e.call && forgets c s p (references c s p)) (is_purge e.call && forgets c t p (references c t p))
+  alike-after p = go (hits p e) (loads p e) (discards p e) (is_purge e.call && forgets c s p (references c s p)) (is_purge e.call && forgets c t p (references c t p))
       (λ n. is_purge e.call && same-forgets c s t l m same p n)
     where
-      go : (h i f g : Bool) → f ≡ g → Alike c.k c.correlated
-          (if h then hit (clock s) ∷ references c s p else if i then fault (clock s) ∷ references c s p else if f then [] else references c s p)
-          (if h then hit (clock t) ∷ references c t p else if i then fault (clock t) ∷ references c t p else if g then [] else references c t p)
-      go true i f g x = subst (λ y. Alike c.k c.correlated (hit (clock s) ∷ references c s p) (hit y ∷ references c t p)) same.time
+      go : (h i d f g : Bool) → f ≡ g → Alike c.k c.correlated
+          (if h then hit (clock s) ∷ references c s p else if i then fault (clock s) ∷ references c s p else if d then [] else if f then [] else references c s p)
+          (if h then hit (clock t) ∷ references c t p else if i then fault (clock t) ∷ references c t p else if d then [] else if g then [] else references c t p)
+      go true i d f g x = subst (λ y. Alike c.k c.correlated (hit (clock s) ∷ references c s p) (hit y ∷ references c t p)) same.time
           (alike-hit c.k c.correlated (clock s) (references c s p) (references c t p) (references-timed c s p).timed (references-timed c t p).timed (alike p))
-      go false true f g x = subst (λ y. Alike c.k c.correlated (fault (clock s) ∷ references c s p) (fault y ∷ references c t p)) same.time
+      go false true d f g x = subst (λ y. Alike c.k c.correlated (fault (clock s) ∷ references c s p) (fault y ∷ references c t p)) same.time
           (alike-fault c.k c.correlated (clock s) (references c s p) (references c t p) (references-timed c s p).timed (references-timed c t p).timed (alike p))
-      go false false true true x = record { last = refl; stamps = λ i. refl }
-      go false false false false x = alike p
-      go false false true false x = cc
-      go false false false true x = cc
+      go false false true f g x = record { last = refl; stamps = λ i. refl }
+      go false false false true true x = record { last = refl; stamps = λ i. refl }
+      go false false false false false x = alike p
+      go false false false true false x = cc
+      go false false false false true x = cc
 
   images-after : (p : ℕ) → resident (e ∷ s) p ≡ true → held (e ∷ s) p ≡ held (e ∷ t) p
   images-after p r = go (loads p e) refl
@@ -169,15 +171,16 @@ module _ (c : Parameters) (s t : Trail) (l : Legal c s) (m : Legal c t) (same : 
       go true h = refl
       go false h = ap (λ b. writes p e || b) (same.rewritten who p n (was-out s e who p n h o))
 
-  changed-with : (call : Call) → allowed c s e.client call ≡ true → (q : ℕ) → unsaved_with s call q ≡ unsaved_with t call q
-  changed-with (Write n p offset bytes lsn) a q = ap (λ b. (p == q) || b) (same.changed q)
-  changed-with (WriteEnd n p true) a q = λ i. if p == q then same.rewritten e.client p n a i else same.changed q i
-  changed-with _ a q = same.changed q
+  changed-with : (call : Call) (r : Reply) → allowed c s e.client call ≡ true → (q : ℕ) → unsaved_with s call r q ≡ unsaved_with t call r q
+  changed-with (Write n p offset bytes lsn) r a q = ap (λ b. (p == q) || b) (same.changed q)
+  changed-with (WriteEnd n p true) r a q = λ i. if p == q then same.rewritten e.client p n a i else same.changed q i
+  changed-with (Discard p) r a q = ap (λ b. not ((is_away_reply r && (p == q)) || false) && b) (same.changed q)
+  changed-with _ r a q = same.changed q
 
   changed-after : (q : ℕ) → unsaved (e ∷ s) q ≡ unsaved (e ∷ t) q
   changed-after q =
       unsaved-after c s e.client l e.call e.reply (event-of c s e lawful) q
-      ∙ changed-with e.call lawful.allowed q
+      ∙ changed-with e.call e.reply lawful.allowed q
       ∙ sym (unsaved-after c t e.client m e.call e.reply (event-of c t e (same-lawful c s t l m same e lawful)) q)
 
   pub same-after : SameStanding c (e ∷ s) (e ∷ t)
@@ -189,7 +192,7 @@ module _ (c : Parameters) (s t : Trail) (l : Legal c s) (m : Legal c t) (same : 
     passes_held = λ n. and_given (pass_of e) (without (λ g. g.serial) (pass_back e.call) (same.passes_held n));
     reads_held = λ n. and_given (read_ticket_of e) (without (λ g. g.serial) (read_ticket_back e.call) (same.reads_held n));
     writes_held = λ n. and_given (write_ticket_of e) (without (λ g. g.serial) (write_ticket_back e.call) (same.writes_held n));
-    places = λ p. same-given (loaded (page_of e.call) e.reply) p _ _ (same-left (evicted e.reply) p (residents s) (residents t) (same.places p));
+    places = λ p. same-given (loaded (page_of e.call) e.reply) p _ _ (same-left (left (page_of e.call) e.reply) p (residents s) (residents t) (same.places p));
     images = images-after;
     tops = tops-after;
     changed = changed-after;

@@ -5,20 +5,20 @@ use Rattle.std.proofs.lemmas.Bool.{cases_Bool, eqb-true, eq-eqb}
 use Rattle.std.proofs.lemmas.Option.{none-some, same_Some}
 use Rattle.bp_trail.specs.declared.entries.Entry.{Entry}
 use Rattle.bp_trail.specs.declared.entries.Call.{Call}
-use Rattle.bp_trail.specs.declared.entries.Call.TheVariants.{Tick, Mark, Fix, ReadEnd, WriteEnd, Write, Unfix, Flush}
+use Rattle.bp_trail.specs.declared.entries.Call.TheVariants.{Tick, Mark, Fix, ReadEnd, WriteEnd, Write, Unfix, Flush, Discard}
 use Rattle.bp_trail.specs.declared.entries.Reply.{Reply}
-use Rattle.bp_trail.specs.declared.entries.Reply.TheVariants.{Hit, Load, WriteFirst, Fixed, ReadFailed, WrongPage, Cleaned, StillDirty}
+use Rattle.bp_trail.specs.declared.entries.Reply.TheVariants.{Hit, Load, WriteFirst, Fixed, ReadFailed, WrongPage, Cleaned, StillDirty, Discarded, Pinned}
 use Rattle.bp_trail.specs.Parameters.{Parameters}
 use Rattle.bp_trail.specs.Lists.{EachEntry}
-use Rattle.bp_trail.specs.Event.{Grant, grant, ticks, marked, lsn_of, lsn_written, hits, loads, writes, begins_of, ends_well, page_of, pass_given, read_ticket_given, write_ticket_given, pass_back, read_ticket_back, write_ticket_back}
+use Rattle.bp_trail.specs.Event.{Grant, grant, ticks, marked, lsn_of, lsn_written, hits, loads, writes, discards, begins_of, ends_well, page_of, pass_given, read_ticket_given, write_ticket_given, pass_back, read_ticket_back, write_ticket_back}
 use Rattle.bp_trail.specs.Trail.{Trail}
 use Rattle.bp_trail.specs.Passes.{passes, tickets}
 use Rattle.bp_trail.specs.Images.{held}
 use Rattle.bp_trail.specs.Legal.{Legal}
-use Rattle.bp_trail.specs.Sentences.{evicts}
-use Rattle.bp_trail.specs.Wording.{can_answer, FitsItsCall, IsHit, IsGoodReadEnd, IsEviction, IsWrite, IsBegin, IsGoodWriteEnd, GivesPass, GivesReadTicket, GivesWriteTicket, SaysSo}
+use Rattle.bp_trail.specs.Sentences.{evicts, leaves}
+use Rattle.bp_trail.specs.Wording.{can_answer, FitsItsCall, IsHit, IsGoodReadEnd, IsEviction, IsDiscard, IsLeaving, IsWrite, IsBegin, IsGoodWriteEnd, GivesPass, GivesReadTicket, GivesWriteTicket, SaysSo}
 use Rattle.bp_trail.proofs.Events.{Event, event-of}
-use Rattle.bp_trail.proofs.Events.Event.{fix_hit, fix_load, fix_replace, fix_write, flush_write, read_good, read_bad, read_wrong, write_clean, write_dirty, page_written}
+use Rattle.bp_trail.proofs.Events.Event.{fix_hit, fix_load, fix_replace, fix_write, flush_write, discard_absent, discard_pinned, discarded, read_good, read_bad, read_wrong, write_clean, write_dirty, page_written}
 
 abbrev entry : ℕ → Call → Reply → Entry
 entry who call reply = record { client = who; call = call; reply = reply }
@@ -76,6 +76,12 @@ module _ (c : Parameters) (past : Trail) (who : ℕ) where
   end-reply _ _ (write_dirty u q o w) t p i = inr refl
   end-reply _ _ _ t p i = cc
 
+  discard-call : (call : Call) (reply : Reply) → Event c past who call reply → (reply ≡ Discarded) ⊎ (reply ≡ Pinned) → (p : ℕ) × (call ≡ Discard p)
+  discard-call _ _ (discarded p x) i = (p, refl)
+  discard-call _ _ (discard_pinned p) i = (p, refl)
+  discard-call _ _ _ (inl i) = cc
+  discard-call _ _ _ (inr i) = cc
+
   table-answers : (call : Call) (reply : Reply) → Event c past who call reply → can_answer call reply ≡ true
   table-answers _ _ (flush_write q r w g) = eq-eqb q q refl
   table-answers _ _ _ = refl
@@ -92,6 +98,16 @@ module _ (c : Parameters) (past : Trail) (who : ℕ) where
   evicts-sound : (call : Call) (reply : Reply) → Event c past who call reply → (p : ℕ) → evicts p (entry who call reply) ≡ true → IsEviction p (entry who call reply)
   evicts-sound _ _ (fix_replace q v m w u) p h = record { asked = q; ticket = tickets past; call = refl; reply = ap (λ x. Load (tickets past) (Some x)) (eqb-true v p h) }
   evicts-sound _ _ _ p h = cc
+
+  discards-sound : (call : Call) (reply : Reply) → Event c past who call reply → (p : ℕ) → discards p (entry who call reply) ≡ true → IsDiscard p (entry who call reply)
+  discards-sound _ _ (discard_absent q x) p h = record { call = ap Discard (eqb-true q p h); reply = inr refl }
+  discards-sound _ _ (discarded q x) p h = record { call = ap Discard (eqb-true q p h); reply = inl refl }
+  discards-sound _ _ _ p h = cc
+
+  leaves-sound : (call : Call) (reply : Reply) → Event c past who call reply → (p : ℕ) → leaves p (entry who call reply) ≡ true → IsLeaving p (entry who call reply)
+  leaves-sound _ _ (fix_replace q v m w u) p h = inl (record { asked = q; ticket = tickets past; call = refl; reply = ap (λ x. Load (tickets past) (Some x)) (eqb-true v p h) })
+  leaves-sound _ _ (discarded q x) p h = inr (ap Discard (eqb-true q p h), refl)
+  leaves-sound _ _ _ p h = cc
 
   writes-sound : (call : Call) (reply : Reply) → Event c past who call reply → (p : ℕ) → writes p (entry who call reply) ≡ true → IsWrite p (entry who call reply)
   writes-sound _ _ (page_written n q offset bytes lsn o) p h = record { pass = n; offset = offset; bytes = bytes; lsn = lsn; call = ap (λ x. Write n x offset bytes lsn) (eqb-true q p h); reply = refl }
@@ -148,6 +164,7 @@ fits c = of-all c (λ past e. FitsItsCall e) (λ past e l. let v = event-of c pa
   read_badly = unread-reply c past e.client e.call e.reply v;
   saved = saved-call c past e.client e.call e.reply v;
   written_well = end-reply c past e.client e.call e.reply v;
+  discarded = discard-call c past e.client e.call e.reply v;
 })
 
 pub answers : (c : Parameters) (past : Trail) → Legal c past → EachEntry (λ past e. can_answer e.call e.reply ≡ true) past
@@ -163,6 +180,12 @@ module _ (e : Entry) where
 
   evicts-complete : (p : ℕ) → IsEviction p e → evicts p e ≡ true
   evicts-complete p w = rw w.reply (eq-eqb p p refl)
+
+  discards-complete : (p : ℕ) → IsDiscard p e → discards p e ≡ true
+  discards-complete p w = elim w.reply as (λ _. discards p e ≡ true) [ inl i ↦ rw (w.call, i) (eq-eqb p p refl) | inr i ↦ rw (w.call, i) (eq-eqb p p refl) ]
+
+  leaves-complete : (p : ℕ) → IsLeaving p e → leaves p e ≡ true
+  leaves-complete p w = elim w as (λ _. leaves p e ≡ true) [ inl i ↦ rw i.reply (eq-eqb p p refl) | inr i ↦ rw (i.0, i.1) (eq-eqb p p refl) ]
 
   writes-complete : (p : ℕ) → IsWrite p e → writes p e ≡ true
   writes-complete p w = rw w.call (eq-eqb p p refl)
@@ -216,6 +239,8 @@ says c = of-all c (λ past e. SaysSo e) (λ past e l. let v = event-of c past e 
   hits = λ p. (hits-sound c past e.client e.call e.reply v p, hits-complete e p);
   loads = λ p. (loads-sound c past e.client e.call e.reply v p, loads-complete e p);
   evicts = λ p. (evicts-sound c past e.client e.call e.reply v p, evicts-complete e p);
+  leaves = λ p. (leaves-sound c past e.client e.call e.reply v p, leaves-complete e p);
+  discards = λ p. (discards-sound c past e.client e.call e.reply v p, discards-complete e p);
   writes = λ p. (writes-sound c past e.client e.call e.reply v p, writes-complete e p);
   begins_of = λ p. (begins-sound c past e.client e.call e.reply v p, begins-complete e p);
   ends_well = λ t. (ends-sound c past e.client e.call e.reply v t, ends-complete c past e.client e.call e.reply v t);

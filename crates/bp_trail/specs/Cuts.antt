@@ -1,5 +1,5 @@
 -- A trail that is handed out piece by piece: each piece opens where the ones before it led.
-use Rattle.std.specs.Prelude.{◌≡◌, ℕ, true, List, [], ◌∷◌, ◌++◌}
+use Rattle.std.specs.Prelude.{◌≡◌, ℕ, true, List, [], ◌∷◌, ◌++◌, Option, Some}
 use Rattle.bp_trail.specs.declared.entries.Entry.{Entry}
 use Rattle.bp_trail.specs.declared.entries.Call.TheVariants.{Read}
 use Rattle.bp_trail.specs.declared.entries.Reply.TheVariants.{Content}
@@ -7,9 +7,9 @@ use Rattle.bp_trail.specs.Parameters.{Parameters}
 use Rattle.bp_trail.specs.Lists.{EachEntry}
 use Rattle.bp_trail.specs.Trail.{Trail}
 use Rattle.bp_trail.specs.Places.{resident}
-use Rattle.bp_trail.specs.Images.{held, plain_map}
+use Rattle.bp_trail.specs.Images.{held, plain_since}
 use Rattle.bp_trail.specs.Legal.{Legal}
-use Rattle.bp_trail.specs.Device.{Honest}
+use Rattle.bp_trail.specs.Device.{HonestSince}
 use Rattle.bp_trail.specs.Standing.{Standing, standing}
 
 -- h may be what came before a trail that opens from this standing
@@ -44,15 +44,18 @@ joined [] = []
 joined (piece ∷ older) = piece.trail ++ joined older
 
 -- a read answers the image of the plain map
-abbrev pub AnswersBy : (ℕ → List ℕ) → Trail → Entry → Type 0
-AnswersBy m past e =
+abbrev pub AnswersBy : (ℕ → List ℕ) → (ℕ → Option (List ℕ)) → Trail → Entry → Type 0
+AnswersBy m known past e =
     (n p : ℕ) (image : List ℕ) → e.call ≡ Read n p → e.reply ≡ Content image
-    → image ≡ plain_map m past p
+    → image ≡ plain_since m known past p
 
--- each read since answers by each plain map that begins with the images held at the opening, over a
--- device that was honest since
+-- Each read since answers by each plain map that begins with the images held at the opening, over a
+-- device that was honest since. At the opening the device was due to give these images too, where
+-- that is known. Of a page that was unsaved then, and is discarded before it is written out, it is
+-- not: then nothing is asked of the next read of that page, and the plain map takes what it brings
 abbrev pub ReadsSince : Parameters → Standing → Trail → Type 0
 ReadsSince c opening trail =
-    (h : Trail) → Precedes c opening h → (m : ℕ → List ℕ)
-    → ((p : ℕ) → resident h p ≡ true → m p ≡ held h p) → Honest m trail
-    → EachEntry (AnswersBy m) trail
+    (h : Trail) → Precedes c opening h → (m : ℕ → List ℕ) (known : ℕ → Option (List ℕ))
+    → ((p : ℕ) → resident h p ≡ true → m p ≡ held h p)
+    → ((p : ℕ) (image : List ℕ) → known p ≡ Some image → image ≡ m p) → HonestSince known trail
+    → EachEntry (AnswersBy m known) trail

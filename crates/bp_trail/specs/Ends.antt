@@ -9,6 +9,8 @@ use Rattle.bp_trail.specs.declared.ends.Ended.{Ended}
 use Rattle.bp_trail.specs.declared.ends.Ended.TheVariants as ended
 use Rattle.bp_trail.specs.declared.ends.Flushed.{Flushed}
 use Rattle.bp_trail.specs.declared.ends.Flushed.TheVariants as flushed
+use Rattle.bp_trail.specs.declared.ends.Discarded.{Discarded}
+use Rattle.bp_trail.specs.declared.ends.Discarded.TheVariants as discarded
 
 -- why the end of a read that failed is refused, by its fault
 abbrev pub read_refusal : PortFault → Refusal
@@ -20,7 +22,7 @@ abbrev pub read_failure : PortFault → Reply
 read_failure fault.WrongPage = reply.WrongPage
 read_failure _ = reply.ReadFailed
 
--- the replies by which a write-out and a flush end
+-- the replies by which a write-out, a flush and a discard end
 abbrev pub ended_reply : Ended → Reply
 ended_reply ended.Cleaned = reply.Cleaned
 ended_reply ended.StillDirty = reply.StillDirty
@@ -30,3 +32,7 @@ flushed_reply flushed.Clean = reply.Clean
 flushed_reply flushed.Absent = reply.Absent
 flushed_reply flushed.Cleaned = reply.Cleaned
 flushed_reply flushed.StillDirty = reply.StillDirty
+
+abbrev pub discarded_reply : Discarded → Reply
+discarded_reply discarded.Left = reply.Discarded
+discarded_reply discarded.Absent = reply.Absent

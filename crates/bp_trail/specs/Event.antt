@@ -4,9 +4,9 @@ use Rattle.bp_page.specs.Patched.{patched}
 use Rattle.bp_trail.specs.declared.entries.Grant.{Grant as GivenGrant}
 use Rattle.bp_trail.specs.declared.entries.Entry.{Entry}
 use Rattle.bp_trail.specs.declared.entries.Call.{Call}
-use Rattle.bp_trail.specs.declared.entries.Call.TheVariants.{Tick, Mark, Fix, ReadEnd, WriteEnd, Read, Write, Unfix, Flush, Purge}
+use Rattle.bp_trail.specs.declared.entries.Call.TheVariants.{Tick, Mark, Fix, ReadEnd, WriteEnd, Read, Write, Unfix, Flush, Discard, Purge}
 use Rattle.bp_trail.specs.declared.entries.Reply.{Reply}
-use Rattle.bp_trail.specs.declared.entries.Reply.TheVariants.{Hit, Load, WriteFirst, Fixed}
+use Rattle.bp_trail.specs.declared.entries.Reply.TheVariants.{Hit, Load, WriteFirst, Fixed, Absent, Discarded}
 
 -- a pass or a ticket: whose it is, of which page, with which serial number
 abbrev pub Grant : Type 0
@@ -27,6 +27,7 @@ page_of (Read n p) = p
 page_of (Write n p offset bytes lsn) = p
 page_of (Unfix n p) = p
 page_of (Flush p) = p
+page_of (Discard p) = p
 page_of _ = 0
 
 -- the clock's steps, and the LSN that is marked durable
@@ -86,7 +87,8 @@ abbrev pub begins_of : ℕ → Reply → Bool
 begins_of p (WriteFirst u q image) = q == p
 begins_of p _ = false
 
--- the page whose read ended well, and the page that leaves its frame
+-- the page whose read ended well, the page that is evicted, and the page that leaves its frame, as
+-- it is evicted or discarded
 abbrev pub loaded : ℕ → Reply → Option ℕ
 loaded p (Fixed n) = Some p
 loaded p _ = None
@@ -94,6 +96,11 @@ loaded p _ = None
 abbrev pub evicted : Reply → Option ℕ
 evicted (Load t v) = v
 evicted _ = None
+
+abbrev pub left : ℕ → Reply → Option ℕ
+left p (Load t v) = v
+left p Discarded = Some p
+left p _ = None
 
 abbrev pub is_hit_reply : Reply → Bool
 is_hit_reply (Hit n) = true
@@ -106,6 +113,20 @@ is_fixed_reply _ = false
 abbrev pub is_purge : Call → Bool
 is_purge Purge = true
 is_purge _ = false
+
+abbrev pub is_discard : Call → Bool
+is_discard (Discard p) = true
+is_discard _ = false
+
+-- the page left its frame by the call, or was in none
+abbrev pub is_away_reply : Reply → Bool
+is_away_reply Discarded = true
+is_away_reply Absent = true
+is_away_reply _ = false
+
+-- a discard of p that was done: after it p is in no frame
+abbrev pub discards : ℕ → Entry → Bool
+discards p e = is_away_reply e.reply && (is_discard e.call && (page_of e.call == p))
 
 abbrev pub hits : ℕ → Entry → Bool
 hits p e = is_hit_reply e.reply && (page_of e.call == p)

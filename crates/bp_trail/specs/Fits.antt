@@ -12,6 +12,7 @@ StepFits c (step.Unfix page) = page < c.pages
 StepFits c (step.Read page) = page < c.pages
 StepFits c (step.Write page offset bytes lsn) = (page < c.pages) × (offset + length bytes ≤ c.size)
 StepFits c (step.Flush page) = page < c.pages
+StepFits c (step.Discard page) = page < c.pages
 StepFits c (step.Tick n) = Unit {0}
 StepFits c step.Purge = Unit {0}
 StepFits c (step.Log lsn) = Unit {0}

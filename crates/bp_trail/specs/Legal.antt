@@ -2,7 +2,7 @@
 use Rattle.std.specs.Prelude.{ℕ, ◌+◌, ◌^◌, nat_lt, nat_le, Bool, true, ◌&&◌, ◌==◌, List, length, Option, Some, None, IsTrue}
 use Rattle.bp_trail.specs.declared.entries.Entry.{Entry}
 use Rattle.bp_trail.specs.declared.entries.Call.{Call}
-use Rattle.bp_trail.specs.declared.entries.Call.TheVariants.{Tick, Mark, Fix, ReadEnd, WriteEnd, Read, Write, Unfix, Flush, Purge}
+use Rattle.bp_trail.specs.declared.entries.Call.TheVariants.{Tick, Mark, Fix, ReadEnd, WriteEnd, Read, Write, Unfix, Flush, Discard, Purge}
 use Rattle.bp_trail.specs.Parameters.{Parameters}
 use Rattle.bp_trail.specs.Lists.{some, EachEntry}
 use Rattle.bp_trail.specs.Event.{Grant, grant, same_grant}
@@ -24,6 +24,7 @@ allowed c past who (Tick n) = nat_le (clock past + n) (2 ^ 62)
 allowed c past who (Mark lsn) = true
 allowed c past who (Fix p) = nat_lt p c.pages
 allowed c past who (Flush p) = nat_lt p c.pages
+allowed c past who (Discard p) = nat_lt p c.pages
 allowed c past who (ReadEnd t p image) = is_out (grant who p t) (reads_out past) && has_size c image
 allowed c past who (WriteEnd t p good) = is_out (grant who p t) (writes_out past)
 allowed c past who (Read n p) = is_out (grant who p n) (passes_out past)

@@ -1,13 +1,13 @@
 -- The lawful reply to a call after a trail.
-use Rattle.std.specs.Prelude.{◌≡◌, ◌⊎◌, ℕ, ◌+◌, nat_lt, Bool, true, false, not, if◌then◌else◌, List, length, Option, Some, None}
+use Rattle.std.specs.Prelude.{◌≡◌, ◌⊎◌, ℕ, ◌+◌, ◌==◌, nat_lt, Bool, true, false, not, if◌then◌else◌, List, length, Option, Some, None}
 use Rattle.bp_trail.specs.declared.entries.Call.{Call}
-use Rattle.bp_trail.specs.declared.entries.Call.TheVariants.{Tick, Mark, Fix, ReadEnd, WriteEnd, Read, Write, Unfix, Flush, Purge}
+use Rattle.bp_trail.specs.declared.entries.Call.TheVariants.{Tick, Mark, Fix, ReadEnd, WriteEnd, Read, Write, Unfix, Flush, Discard, Purge}
 use Rattle.bp_trail.specs.declared.entries.Reply.{Reply}
-use Rattle.bp_trail.specs.declared.entries.Reply.TheVariants.{Done, Hit, Load, WriteFirst, NoVictim, NeedLog, Busy, Fixed, ReadFailed, WrongPage, Cleaned, StillDirty, WriteFailed, Content, Clean, Absent, Forgot}
+use Rattle.bp_trail.specs.declared.entries.Reply.TheVariants.{Done, Hit, Load, WriteFirst, NoVictim, NeedLog, Busy, Fixed, ReadFailed, WrongPage, Cleaned, StillDirty, WriteFailed, Content, Clean, Absent, Discarded, Pinned, Forgot}
 use Rattle.bp_trail.specs.Parameters.{Parameters}
 use Rattle.bp_trail.specs.Trail.{Trail}
 use Rattle.bp_trail.specs.Clock.{durable}
-use Rattle.bp_trail.specs.Passes.{passes, tickets, reads_out}
+use Rattle.bp_trail.specs.Passes.{passes, tickets, reads_out, pins}
 use Rattle.bp_trail.specs.Places.{residents, resident, loading, writing}
 use Rattle.bp_trail.specs.Saved.{unsaved, written_since, page_lsn}
 use Rattle.bp_trail.specs.Images.{held}
@@ -48,6 +48,14 @@ flush_reply past p =
     else if unsaved past p then write_out_reply past p
     else Clean
 
+abbrev pub discard_reply : Trail → ℕ → Reply
+discard_reply past p =
+    if loading past p then Busy
+    else if not (resident past p) then Absent
+    else if writing past p then Busy
+    else if pins past p == 0 then Discarded
+    else Pinned
+
 abbrev pub write_end_reply : Trail → ℕ → ℕ → Bool → Reply
 write_end_reply past t p false = WriteFailed
 write_end_reply past t p true = if written_since past t p then StillDirty else Cleaned
@@ -59,6 +67,7 @@ read_end_reply past (Some image) = Fixed (passes past)
 abbrev pub reply_of : Parameters → Trail → Call → Reply
 reply_of c past (Fix p) = fix_reply c past p
 reply_of c past (Flush p) = flush_reply past p
+reply_of c past (Discard p) = discard_reply past p
 reply_of c past (ReadEnd t p image) = read_end_reply past image
 reply_of c past (WriteEnd t p good) = write_end_reply past t p good
 reply_of c past (Read n p) = Content (held past p)

@@ -4,9 +4,9 @@ use Rattle.bp_page.specs.declared.refusals.Refusal.{Refusal}
 use Rattle.bp_page.specs.Refusals.{number_of}
 use Rattle.bp_trail.specs.declared.entries.Entry.{Entry}
 use Rattle.bp_trail.specs.declared.entries.Call.{Call}
-use Rattle.bp_trail.specs.declared.entries.Call.TheVariants.{Mark, Fix, ReadEnd, WriteEnd, Flush}
+use Rattle.bp_trail.specs.declared.entries.Call.TheVariants.{Mark, Fix, ReadEnd, WriteEnd, Flush, Discard}
 use Rattle.bp_trail.specs.declared.entries.Reply.{Reply}
-use Rattle.bp_trail.specs.declared.entries.Reply.TheVariants.{Done, Hit, Load, WriteFirst, NoVictim, NeedLog, Busy, Fixed, ReadFailed, WrongPage, Cleaned, StillDirty, WriteFailed, Clean, Absent}
+use Rattle.bp_trail.specs.declared.entries.Reply.TheVariants.{Done, Hit, Load, WriteFirst, NoVictim, NeedLog, Busy, Fixed, ReadFailed, WrongPage, Cleaned, StillDirty, WriteFailed, Clean, Absent, Discarded, Pinned}
 use Rattle.bp_trail.specs.Trail.{Trail}
 
 -- a session shares its pool: it marks, waits where a page is busy, and may lose a ticket; a driver
@@ -126,6 +126,27 @@ pub data FlushPiece (m : Manner) (client page : ℕ) : Trail → Outcome → Typ
       → FlushPiece m client page older (refused 20)
   no_memory : {older : Trail} → FlushGoesOn m client page older
       → FlushPiece m client page older (refused 22)
+
+-- a discard that is not answered yet: a session waits where the page is busy
+pub data DiscardGoesOn (m : Manner) (client page : ℕ) : Trail → Type 0 where
+  begins : DiscardGoesOn m client page []
+  waited : {older : Trail} → IsTrue (in_session m) → DiscardGoesOn m client page older
+      → DiscardGoesOn m client page (by client (Discard page) Busy ∷ older)
+
+-- the piece of a discard
+pub data DiscardPiece (m : Manner) (client page : ℕ) : Trail → Outcome → Type 0 where
+  discarded : {older : Trail} → DiscardGoesOn m client page older
+      → DiscardPiece m client page (by client (Discard page) Discarded ∷ older) accepted
+  absent : {older : Trail} → DiscardGoesOn m client page older
+      → DiscardPiece m client page (by client (Discard page) Absent ∷ older) accepted
+  pinned : {older : Trail} → DiscardGoesOn m client page older
+      → DiscardPiece m client page (by client (Discard page) Pinned ∷ older) (refused 25)
+  busy : {older : Trail} → m ≡ driver → DiscardGoesOn m client page older
+      → DiscardPiece m client page (by client (Discard page) Busy ∷ older) (refused 13)
+  no_room : {older : Trail} → DiscardGoesOn m client page older
+      → DiscardPiece m client page older (refused 20)
+  no_memory : {older : Trail} → DiscardGoesOn m client page older
+      → DiscardPiece m client page older (refused 22)
 
 -- the piece of a row of one call: that entry, or none where the call was refused with one of these
 -- numbers

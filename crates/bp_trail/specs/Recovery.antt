@@ -8,11 +8,11 @@ use Rattle.bp_trail.specs.declared.entries.Call.TheVariants.{Write}
 use Rattle.bp_trail.specs.declared.entries.Reply.TheVariants.{WriteFirst}
 use Rattle.bp_trail.specs.declared.records.LogRecord.{LogRecord}
 use Rattle.bp_trail.specs.Lists.{some, every, least_since, EachEntry}
-use Rattle.bp_trail.specs.Event.{page_of, loads, writes, lsn_of, lsn_written}
+use Rattle.bp_trail.specs.Event.{page_of, discards, loads, writes, lsn_of, lsn_written}
 use Rattle.bp_trail.specs.Trail.{Trail}
 use Rattle.bp_trail.specs.Parameters.{Parameters}
 use Rattle.bp_trail.specs.Clock.{durable}
-use Rattle.bp_trail.specs.Saved.{began_saving, page_lsn}
+use Rattle.bp_trail.specs.Saved.{began_saving, settles, page_lsn}
 use Rattle.bp_trail.specs.Legal.{Legal}
 use Rattle.bp_trail.specs.Device.{BringsDue, HonestOf}
 use Rattle.bp_trail.specs.Standing.{Content}
@@ -190,7 +190,8 @@ MayHaveStamped first synced past p x =
 -- ---- what an engine keeps
 
 -- Page p is used again: a write gives all of its bytes, whatever it had, and is within the log. Each
--- good read of p since then brought what was due. Before that the reads may have brought anything.
+-- good read of p since then brought what was due, and p was not discarded since. Before that the reads
+-- may have brought anything.
 pub record UsedAgain (size : ℕ) (first : ℕ → List ℕ) (end : ℕ) (past : Trail) (p : ℕ) : Type 0 where
   pub later : Trail
   pub entry : Entry
@@ -203,13 +204,18 @@ pub record UsedAgain (size : ℕ) (first : ℕ → List ℕ) (end : ℕ) (past :
   pub logged : lsn_of entry.call ≤ end
   pub honest : EachEntry (λ between e. page_of e.call ≡ p
       → BringsDue first (between ++ entry ∷ earlier) e) later
+  pub kept : IsFalse (some (discards p) later)
 
--- the device gave back of p what was written, from the opening on or since p was used again
+-- the device gave back of p what was written, from the opening on or since p was used again, and p
+-- was not discarded since then: what was written before a discard is not what the page has, though
+-- the log has it
 pub data GaveBack (size : ℕ) (first : ℕ → List ℕ) (end : ℕ) (past : Trail) (p : ℕ) : Type 0 where
-  from_opening : HonestOf first p past → GaveBack size first end past p
+  from_opening : HonestOf first p past → IsFalse (some (discards p) past)
+      → GaveBack size first end past p
   since_used_again : UsedAgain size first end past p → GaveBack size first end past p
 
--- p was read anew, and all of its writes since are beyond the end of the log
+-- p was read anew, and all of its writes since are beyond the end of the log. It was not discarded
+-- since
 pub record ReadBeyond (end : ℕ) (past : Trail) (p : ℕ) : Type 0 where
   pub later : Trail
   pub read : Entry
@@ -217,19 +223,21 @@ pub record ReadBeyond (end : ℕ) (past : Trail) (p : ℕ) : Type 0 where
   pub stands : past ≡ later ++ read ∷ earlier
   pub reads_it : IsTrue (loads p read)
   pub beyond : IsTrue (every (λ e. not (writes p e) || nat_lt end (lsn_of e.call)) later)
+  pub kept : IsFalse (some (discards p) later)
 
 -- the first record of a page that is used again says that it is new: to apply it gives the page all
 -- of its bytes, whatever it has
 abbrev pub TellsNew : {size : ℕ} {first : ℕ → List ℕ} {end : ℕ} {past : Trail} {p : ℕ}
     → (LogRecord → List ℕ → List ℕ) → GaveBack size first end past p → Type 0
-TellsNew apply (GaveBack.from_opening honest) = Unit {0}
+TellsNew apply (GaveBack.from_opening honest kept) = Unit {0}
 TellsNew apply (GaveBack.since_used_again u) =
     (image : List ℕ) → apply (record_of u.entry.call) image ≡ (record_of u.entry.call).bytes
 
--- the least LSN of the writes of p after which no write-out of it began that was safe
+-- the least LSN of the writes of p after which no write-out of it began that was safe, and no discard
+-- of it came
 abbrev pub first_unsafe : Trail → Trail → ℕ → Option ℕ
 first_unsafe synced past p =
-    least_since (lsn_written p) (λ e. began_saving synced p e.reply) past
+    least_since (lsn_written p) (settles synced p) past
 
 -- redo may begin at an LSN that is not above any of these
 abbrev pub IsRedoPoint : ℕ → Trail → Trail → ℕ → Type 0

@@ -7,7 +7,7 @@ use Rattle.bp_trail.specs.declared.entries.Entry.{Entry}
 use Rattle.bp_trail.specs.Parameters.{Parameters}
 use Rattle.bp_trail.specs.Trail.{Trail}
 use Rattle.bp_references.specs.Numbers.{count_below}
-use Rattle.bp_trail.specs.Event.{hits, loads, is_purge}
+use Rattle.bp_trail.specs.Event.{hits, loads, discards, is_purge}
 use Rattle.bp_trail.specs.Clock.{clock}
 use Rattle.bp_trail.specs.Places.{resident, loading}
 
@@ -27,6 +27,7 @@ abbrev pub references_with : Parameters → Entry → Trail → ℕ → List Ref
 references_with c e past p known =
     if hits p e then hit (clock past) ∷ known
     else if loads p e then fault (clock past) ∷ known
+    else if discards p e then []
     else if is_purge e.call && forgets c past p known then []
     else known
 

@@ -13,7 +13,7 @@ use Rattle.bp_trail.specs.Lists.{every}
 use Rattle.bp_trail.specs.Event.{Grant}
 use Rattle.bp_trail.specs.Trail.{Trail}
 use Rattle.bp_trail.specs.Passes.{passes_out}
-use Rattle.bp_trail.specs.Pieces.{Manner, Outcome, by, FixPiece, FlushPiece, OneCall}
+use Rattle.bp_trail.specs.Pieces.{Manner, Outcome, by, FixPiece, FlushPiece, DiscardPiece, OneCall}
 use Rattle.bp_trail.specs.Pieces.Manner.{session, driver}
 use Rattle.bp_trail.specs.Pieces.Outcome.{accepted, refused}
 
@@ -39,6 +39,7 @@ LogPiece driver client lsn piece outcome = OneCall (20 ∷ []) client (Mark lsn)
 abbrev pub RowPiece : Manner → Trail → ℕ → Step → Trail → Outcome → Type 0
 RowPiece m past client (step.Fix page) piece outcome = FixPiece m client page piece outcome
 RowPiece m past client (step.Flush page) piece outcome = FlushPiece m client page piece outcome
+RowPiece m past client (step.Discard page) piece outcome = DiscardPiece m client page piece outcome
 RowPiece m past client (step.Read page) piece outcome =
     WithPass (20 ∷ 22 ∷ []) client (λ pass. Read pass page) piece outcome
     (latest_pass past client page)

@@ -1,6 +1,6 @@
 -- The definitions once more, each as one sentence over the whole list of entries. The laws of
 -- src/laws.rt tie to it what is computed entry by entry.
-use Rattle.std.specs.Prelude.{◌≡◌, ℕ, ◌-◌, ◌<◌, ◌≤◌, ◌==◌, Bool, true, false, not, ◌&&◌, if◌then◌else◌, IsTrue, IsFalse, ⊤, List, [], ◌∷◌, ◌++◌, filter, filter_map, Contains, Option, Some, None}
+use Rattle.std.specs.Prelude.{◌≡◌, ℕ, ◌-◌, ◌<◌, ◌≤◌, ◌==◌, Bool, true, false, not, ◌&&◌, ◌||◌, if◌then◌else◌, IsTrue, IsFalse, ⊤, List, [], ◌∷◌, ◌++◌, filter, filter_map, Contains, Option, Some, None}
 use Rattle.std.specs.Option.{option_map_or}
 use Rattle.bp_references.specs.Burst.{Reference}
 use Rattle.bp_references.specs.Burst.Reference.{hit, fault}
@@ -10,7 +10,7 @@ use Rattle.bp_trail.specs.declared.entries.Reply.{Reply}
 use Rattle.bp_trail.specs.declared.entries.Reply.TheVariants.{Hit, Load, WriteFirst, Fixed, Cleaned}
 use Rattle.bp_trail.specs.Parameters.{Parameters}
 use Rattle.bp_trail.specs.Lists.{some, after_last}
-use Rattle.bp_trail.specs.Event.{Grant, same_grant, evicted, hits, loads, writes, is_purge, ends_well}
+use Rattle.bp_trail.specs.Event.{Grant, same_grant, page_of, evicted, left, hits, loads, writes, discards, is_purge, ends_well}
 use Rattle.bp_trail.specs.Trail.{Trail}
 use Rattle.bp_trail.specs.Clock.{clock}
 use Rattle.bp_trail.specs.Passes.{pins}
@@ -49,6 +49,10 @@ pub record IsGreatest (numbers : List ℕ) (greatest : ℕ) : Type 0 where
 
 abbrev pub evicts : ℕ → Entry → Bool
 evicts p e = option_map_or (λ v. v == p) (evicted e.reply) false
+
+-- an entry has p leave its frame: it evicts p, or discards it
+abbrev pub leaves : ℕ → Entry → Bool
+leaves p e = option_map_or (λ v. v == p) (left (page_of e.call) e.reply) false
 
 -- an entry gives back this pass or ticket
 abbrev pub gives_back : (Entry → Option ℕ) → Grant → Entry → Bool
@@ -115,11 +119,12 @@ reference_at p at =
     if hits p at.0 then Some (hit (clock at.1)) else if loads p at.0 then Some (fault (clock at.1))
     else None
 
--- a purge that forgot p
+-- a discard of p, or a purge that forgot p
 abbrev pub forgot_at : Parameters → ℕ → Entry × Trail → Bool
-forgot_at c p at = is_purge at.0.call && forgets c at.1 p (references c at.1 p)
+forgot_at c p at =
+    discards p at.0 || (is_purge at.0.call && forgets c at.1 p (references c at.1 p))
 
--- the hits and good read ends after the last purge that forgot p
+-- the hits and good read ends after p was last forgotten
 abbrev pub references_since : Parameters → Trail → ℕ → List Reference
 references_since c past p =
     filter_map (reference_at p) (after_last (forgot_at c p) (with_before past))
@@ -147,14 +152,15 @@ pub record IsFirst (c : Parameters) (past : Trail) (v : ℕ) : Type 0 where
 
 -- ---- write-outs
 
--- a write of p that no good write-out of p began after: none that begins later has a good end with
--- its ticket
+-- a write of p after which p was not discarded, and that no good write-out of p began after: none
+-- that begins later has a good end with its ticket
 pub record IsUnsaved (past : Trail) (p : ℕ) : Type 0 where
   pub later : Trail
   pub entry : Entry
   pub earlier : Trail
   pub stands : past ≡ later ++ entry ∷ earlier
   pub writes : IsTrue (writes p entry)
+  pub not_discarded : IsFalse (some (discards p) later)
   pub not_saved : (begin : Entry) (t : ℕ) (image : List ℕ) → Contains later begin
       → begin.reply ≡ WriteFirst t p image → IsFalse (some (λ e. ends_well t e.call) past)
 

@@ -2,7 +2,7 @@
 use Rattle.std.specs.Prelude.{◌≡◌, ℕ, ◌+◌, ◌^◌, ◌<◌, Bool, true, false, if◌then◌else◌, List, length, Some, count_by}
 use Rattle.bp_trail.specs.declared.entries.Entry.{Entry}
 use Rattle.bp_trail.specs.declared.entries.Reply.{Reply}
-use Rattle.bp_trail.specs.declared.entries.Reply.TheVariants.{Hit, Load, NoVictim, NeedLog, Busy, Fixed, ReadFailed, WrongPage, Cleaned, StillDirty, WriteFailed}
+use Rattle.bp_trail.specs.declared.entries.Reply.TheVariants.{Hit, Load, NoVictim, NeedLog, Busy, Fixed, ReadFailed, WrongPage, Cleaned, StillDirty, WriteFailed, Discarded, Pinned}
 use Rattle.bp_trail.specs.declared.totals.Totals.{Totals}
 
 abbrev pub is_hit : Reply → Bool
@@ -32,7 +32,12 @@ abbrev pub is_refusal : Reply → Bool
 is_refusal NoVictim = true
 is_refusal (NeedLog lsn) = true
 is_refusal Busy = true
+is_refusal Pinned = true
 is_refusal _ = false
+
+abbrev pub is_discarded : Reply → Bool
+is_discarded Discarded = true
+is_discarded _ = false
 
 -- how many replies of the entries pass a test
 abbrev pub replies : (Reply → Bool) → List Entry → ℕ
@@ -46,10 +51,19 @@ totals_of entries = record {
   writes = replies is_write entries;
   failed = replies is_failure entries;
   refused = replies is_refusal entries;
+  discards = replies is_discarded entries;
 }
 
 abbrev pub no_totals : Totals
-no_totals = record { hits = 0; faults = 0; evictions = 0; writes = 0; failed = 0; refused = 0 }
+no_totals = record {
+  hits = 0;
+  faults = 0;
+  evictions = 0;
+  writes = 0;
+  failed = 0;
+  refused = 0;
+  discards = 0;
+}
 
 -- one more where the test passes
 abbrev pub one : Bool → ℕ
@@ -64,6 +78,7 @@ counted r t = record {
   writes = t.writes + one (is_write r);
   failed = t.failed + one (is_failure r);
   refused = t.refused + one (is_refusal r);
+  discards = t.discards + one (is_discarded r);
 }
 
 -- each total may grow by one
@@ -74,6 +89,7 @@ pub record HasRoom (t : Totals) : Type 0 where
   pub writes : t.writes + 1 < 2 ^ 64
   pub failed : t.failed + 1 < 2 ^ 64
   pub refused : t.refused + 1 < 2 ^ 64
+  pub discards : t.discards + 1 < 2 ^ 64
 
 -- totals that are counted reply by reply are right as long as there are fewer than 2^64 entries
 abbrev pub CountsAll : List Entry → Totals → Type 0
@@ -88,6 +104,7 @@ both t u = record {
   writes = t.writes + u.writes;
   failed = t.failed + u.failed;
   refused = t.refused + u.refused;
+  discards = t.discards + u.discards;
 }
 
 -- no total of the two together is too large for a number of 64 bits
@@ -98,3 +115,4 @@ pub record FitTogether (t u : Totals) : Type 0 where
   pub writes : t.writes + u.writes < 2 ^ 64
   pub failed : t.failed + u.failed < 2 ^ 64
   pub refused : t.refused + u.refused < 2 ^ 64
+  pub discards : t.discards + u.discards < 2 ^ 64

@@ -2,12 +2,12 @@
 use Rattle.std.specs.Prelude.{◌≡◌, ℕ, Bool, true, false, ◌==◌, List, Option, Some, None, ◌⊎◌, ◌↔◌, Decides}
 use Rattle.bp_trail.specs.declared.entries.Entry.{Entry}
 use Rattle.bp_trail.specs.declared.entries.Call.{Call}
-use Rattle.bp_trail.specs.declared.entries.Call.TheVariants.{Tick, Mark, Fix, ReadEnd, WriteEnd, Read, Write, Unfix, Flush, Purge}
+use Rattle.bp_trail.specs.declared.entries.Call.TheVariants.{Tick, Mark, Fix, ReadEnd, WriteEnd, Read, Write, Unfix, Flush, Discard, Purge}
 use Rattle.bp_trail.specs.declared.entries.Reply.{Reply}
-use Rattle.bp_trail.specs.declared.entries.Reply.TheVariants.{Done, Hit, Load, WriteFirst, NoVictim, NeedLog, Busy, Fixed, ReadFailed, WrongPage, Cleaned, StillDirty, WriteFailed, Content, Clean, Absent, Forgot}
-use Rattle.bp_trail.specs.Event.{Grant, ticks, marked, lsn_written, hits, loads, writes, begins_of, ends_well, pass_back, read_ticket_back, write_ticket_back}
+use Rattle.bp_trail.specs.declared.entries.Reply.TheVariants.{Done, Hit, Load, WriteFirst, NoVictim, NeedLog, Busy, Fixed, ReadFailed, WrongPage, Cleaned, StillDirty, WriteFailed, Content, Clean, Absent, Discarded, Pinned, Forgot}
+use Rattle.bp_trail.specs.Event.{Grant, ticks, marked, lsn_written, hits, loads, writes, discards, begins_of, ends_well, pass_back, read_ticket_back, write_ticket_back}
 use Rattle.bp_trail.specs.Passes.{pass_of, read_ticket_of, write_ticket_of}
-use Rattle.bp_trail.specs.Sentences.{evicts, gives_back}
+use Rattle.bp_trail.specs.Sentences.{evicts, leaves, gives_back}
 
 -- the whole table: which replies can stand with a call
 abbrev pub can_answer : Call → Reply → Bool
@@ -33,6 +33,10 @@ can_answer (Flush p) (NeedLog lsn) = true
 can_answer (Flush p) Busy = true
 can_answer (Flush p) Clean = true
 can_answer (Flush p) Absent = true
+can_answer (Discard p) Discarded = true
+can_answer (Discard p) Pinned = true
+can_answer (Discard p) Busy = true
+can_answer (Discard p) Absent = true
 can_answer Purge (Forgot pages) = true
 can_answer _ _ = false
 
@@ -54,6 +58,7 @@ pub record FitsItsCall (e : Entry) : Type 0 where
       → (t : ℕ) × (p : ℕ) × (e.call ≡ WriteEnd t p true)
   pub written_well : (t p : ℕ) → e.call ≡ WriteEnd t p true
       → (e.reply ≡ Cleaned) ⊎ (e.reply ≡ StillDirty)
+  pub discarded : (e.reply ≡ Discarded) ⊎ (e.reply ≡ Pinned) → (p : ℕ) × (e.call ≡ Discard p)
 
 pub record IsHit (p : ℕ) (e : Entry) : Type 0 where
   pub pass : ℕ
@@ -72,6 +77,14 @@ pub record IsEviction (p : ℕ) (e : Entry) : Type 0 where
   pub ticket : ℕ
   pub call : e.call ≡ Fix asked
   pub reply : e.reply ≡ Load ticket (Some p)
+
+-- the page left its frame, or was in none
+pub record IsDiscard (p : ℕ) (e : Entry) : Type 0 where
+  pub call : e.call ≡ Discard p
+  pub reply : (e.reply ≡ Discarded) ⊎ (e.reply ≡ Absent)
+
+abbrev pub IsLeaving : ℕ → Entry → Type 0
+IsLeaving p e = IsEviction p e ⊎ ((e.call ≡ Discard p) × (e.reply ≡ Discarded))
 
 pub record IsWrite (p : ℕ) (e : Entry) : Type 0 where
   pub pass : ℕ
@@ -115,6 +128,8 @@ pub record SaysSo (e : Entry) : Type 0 where
   pub hits : (p : ℕ) → Decides (hits p e) (IsHit p e)
   pub loads : (p : ℕ) → Decides (loads p e) (IsGoodReadEnd p e)
   pub evicts : (p : ℕ) → Decides (evicts p e) (IsEviction p e)
+  pub leaves : (p : ℕ) → Decides (leaves p e) (IsLeaving p e)
+  pub discards : (p : ℕ) → Decides (discards p e) (IsDiscard p e)
   pub writes : (p : ℕ) → Decides (writes p e) (IsWrite p e)
   pub begins_of : (p : ℕ) → Decides (begins_of p e.reply) (IsBegin p e)
   pub ends_well : (t : ℕ) → Decides (ends_well t e.call) (IsGoodWriteEnd t e)

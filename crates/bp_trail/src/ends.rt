@@ -1,7 +1,7 @@
-//! `Ended`, `Flushed` and `NotFlushed`: the results of write-outs and flushes; and how the end of a read that failed is
-//! refused.
+//! `Ended`, `Flushed`, `NotFlushed` and `Discarded`: the results of write-outs, flushes and discards; and how the end of
+//! a read that failed is refused.
 ghost use Rattle.std.specs.Prelude.{◌≡◌};
-ghost use Rattle.bp_trail.specs.Ends.{read_refusal, read_failure, ended_reply, flushed_reply};
+ghost use Rattle.bp_trail.specs.Ends.{read_refusal, read_failure, ended_reply, flushed_reply, discarded_reply};
 
 use crate::entries::Reply;
 use bp_page::{PageNo, PortFault, Refusal};
@@ -57,6 +57,27 @@ pub enum Flushed {
 pub struct NotFlushed {
     pub page: PageNo,
     pub why: Refusal,
+}
+
+/// Where a discard found the page. Its references are forgotten in both cases.
+#[derive(Clone, Copy, PartialEq, Eq, Debug, Drop)]
+pub enum Discarded {
+    /// The page has left its frame.
+    Left,
+    /// The page was not resident.
+    Absent,
+}
+
+impl Discarded {
+    /// Returns the reply in the entry of that discard.
+    pub fn reply(self) -> Reply
+        ensures { result ≡ discarded_reply self }
+    {
+        match self {
+            Discarded::Left => Reply::Discarded,
+            Discarded::Absent => Reply::Absent,
+        }
+    }
 }
 
 /// Returns the refusal of a read that failed so: `WrongPage` where another page was found, and else `ReadFailed`.

@@ -62,6 +62,9 @@ pub enum Call {
     },
     /// The page is to be written out, if it is unsaved.
     Flush(PageNo),
+    /// The page is to leave its frame without being written out, and its references are forgotten. Its writes that no
+    /// good write-out began after are lost.
+    Discard(PageNo),
     /// Forgets the references of pages that are neither resident nor loading and were last referenced more than the
     /// retained period ago.
     Purge,
@@ -111,8 +114,12 @@ pub enum Reply {
     Content(Image),
     /// The page is in a frame and not unsaved: nothing is written.
     Clean,
-    /// The page is in no frame: nothing is written.
+    /// The page is in no frame: nothing is written, and nothing discarded.
     Absent,
+    /// The page left its frame without being written out.
+    Discarded,
+    /// The page is pinned, and stays in its frame.
+    Pinned,
     /// So many pages were forgotten.
     Forgot(u64),
 }

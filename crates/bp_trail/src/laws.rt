@@ -5,19 +5,19 @@ ghost use Rattle.bp_references.specs.Cut.{IsCut};
 ghost use Rattle.bp_references.specs.Distance.{is_farther};
 ghost use Rattle.bp_references.specs.Stamp.{burst_at, burst_stamp, IsTimed};
 ghost use Rattle.bp_trail.specs.declared.entries.Entry.{Entry};
-ghost use Rattle.bp_trail.specs.declared.entries.Call.TheVariants.{Fix, ReadEnd, WriteEnd};
+ghost use Rattle.bp_trail.specs.declared.entries.Call.TheVariants.{Fix, ReadEnd, WriteEnd, Discard};
 ghost use Rattle.bp_trail.specs.declared.entries.Reply.TheVariants.{Load, WriteFirst, Fixed, Cleaned};
 ghost use Rattle.bp_trail.specs.declared.scripts.Row.{Row};
 ghost use Rattle.bp_trail.specs.declared.scripts.Refused.{Refused};
 ghost use Rattle.bp_trail.specs.Parameters.{Parameters};
 ghost use Rattle.bp_trail.specs.Lists.{greatest, some, count, after_last, since, EachEntry};
-ghost use Rattle.bp_trail.specs.Event.{Grant, ticket_given, pass_back, read_ticket_back, write_ticket_back, ends_well, begins, begins_of, loads, writes, lsn_written, marked};
+ghost use Rattle.bp_trail.specs.Event.{Grant, ticket_given, pass_back, read_ticket_back, write_ticket_back, ends_well, begins, begins_of, discards, loads, writes, lsn_written, marked};
 ghost use Rattle.bp_trail.specs.Trail.{Trail};
 ghost use Rattle.bp_trail.specs.Clock.{clock, durable};
 ghost use Rattle.bp_trail.specs.Passes.{pass_of, read_ticket_of, write_ticket_of, passes, tickets, passes_out, reads_out, writes_out, is_of, pins};
 ghost use Rattle.bp_trail.specs.Places.{residents, resident, loading, writing};
-ghost use Rattle.bp_trail.specs.Saved.{began_saving, unsaved, written_since, page_lsn, first_lsn, IsRedoFrom};
-ghost use Rattle.bp_trail.specs.Images.{held, plain_map};
+ghost use Rattle.bp_trail.specs.Saved.{settles, unsaved, written_since, page_lsn, first_lsn, IsRedoFrom};
+ghost use Rattle.bp_trail.specs.Images.{held, written_into, plain_map};
 ghost use Rattle.bp_trail.specs.References.{references, forgets, last, hist};
 ghost use Rattle.bp_trail.specs.Victim.{backward_distance, candidate, victim};
 ghost use Rattle.bp_trail.specs.PageMap.{reply_of};
@@ -31,15 +31,16 @@ ghost use Rattle.bp_trail.specs.Clients.{of_client};
 ghost use Rattle.bp_trail.specs.LogBound.{row_at, is_unfix, IsWithinLog};
 ghost use Rattle.bp_trail.specs.InPieces.{InPieceOf, BoundedByItsRow};
 ghost use Rattle.bp_trail.specs.Totals.{both, totals_of};
-ghost use Rattle.bp_trail.specs.Safety.{EvictsSafely, WritesAreDurable, Safe};
+ghost use Rattle.bp_trail.specs.Safety.{EvictsSafely, DiscardsSafely, WritesAreDurable, Safe};
 ghost use Rattle.bp_trail.specs.Claims.{HeldIsPlain, ReadsAreKnown, FindsDue, AnswersPlain, SendsPlain};
 ghost use Rattle.bp_trail.specs.Wording.{can_answer, FitsItsCall, SaysSo};
-ghost use Rattle.bp_trail.specs.Sentences.{Lasts, AreAfterLast, IsGreatest, evicts, IsGivenSince, unended, IsUnended, HasUnended, pass_number, gives_pass, begins_operation, IsNext, IsNew, references_since, IsForgotten, IsCandidate, IsFirst, IsUnsaved, victim_begun, victim_saved};
+ghost use Rattle.bp_trail.specs.Sentences.{Lasts, AreAfterLast, IsGreatest, leaves, IsGivenSince, unended, IsUnended, HasUnended, pass_number, gives_pass, begins_operation, IsNext, IsNew, references_since, IsForgotten, IsCandidate, IsFirst, IsUnsaved, victim_begun, victim_saved};
 
 /// In a legal trail each reply stands with its call: a hit and a load with a fix, a write-out's begin with a fix or
-/// with a flush of that page; a read end is answered with a pass exactly where it brought an image, and else that the
-/// read failed or that it found another page; a write end is good exactly where the write was. The table `can_answer`
-/// has all replies. So each definition on one entry says of its call and its reply what its name says.
+/// with a flush of that page; that a page was discarded, or is pinned, with a discard; a read end is answered with a
+/// pass exactly where it brought an image, and else that the read failed or that it found another page; a write end is
+/// good exactly where the write was. The table `can_answer` has all replies. So each definition on one entry says of its
+/// call and its reply what its name says.
 pub fn words_on_entries()
     ensures replies { (c : Parameters) (past : Trail) → Legal c past →
         EachEntry (λ before e. FitsItsCall e) past }
@@ -96,9 +97,10 @@ pub fn out_is_given_and_not_ended_since()
         (IsGivenSince write_ticket_of (λ e. write_ticket_back e.call) past g) }
 {}
 
-/// A page is resident exactly where a read of it ended well and no later entry evicts it.
-pub fn resident_was_read_and_not_evicted()
-    ensures { (past : Trail) (p : ℕ) → Decides (resident past p) (Lasts (loads p) (evicts p) past) }
+/// A page is resident exactly where a read of it ended well and it left its frame by no later entry: none evicts it or
+/// discards it.
+pub fn resident_was_read_and_did_not_leave()
+    ensures { (past : Trail) (p : ℕ) → Decides (resident past p) (Lasts (loads p) (leaves p) past) }
 {}
 
 /// `passes` and `tickets` count the replies that give one, over any entries. In a legal trail they are the next serial
@@ -116,10 +118,11 @@ pub fn serials_count_the_replies()
         EachEntry (IsNew (λ e. ticket_given e.reply)) past }
 {}
 
-/// The references of a page are its hits and good read ends, each with the clock at it, after the last purge that
-/// forgot the page; a resident page has some, and only pages in range have any. A purge forgets a page exactly where
-/// it has references, is neither resident nor loading, and its LAST lies more than the retained period back. Their
-/// times never fall and never pass the clock.
+/// The references of a page are its hits and good read ends, each with the clock at it, after the page was last
+/// forgotten: by a discard of it, which was answered that it left its frame or is in none, or by a purge. A resident
+/// page has some, and only pages in range have any. A purge forgets a page exactly where it has references, is neither
+/// resident nor loading, and its LAST lies more than the retained period back. Their times never fall and never pass the
+/// clock.
 pub fn references_since_the_last_forgetting()
     ensures references { (c : Parameters) (past : Trail) (p : ℕ) → Legal c past →
         references c past p ≡ references_since c past p }
@@ -174,9 +177,9 @@ pub fn saved_victim_leaves_at_the_next_fix()
         reply_of c saved (Fix p) ≡ Load (tickets saved) (Some v) }
 {}
 
-/// A page is unsaved exactly where some write of it has no good write-out of it that began after it. Its page LSN is
-/// the greatest LSN of its writes after its last good read end, or 0; the durable mark the greatest LSN marked, or 0.
-/// It was written since a write-out began where some write of it came after that.
+/// A page is unsaved exactly where some write of it has no good write-out of it that began after it, and no discard of
+/// it after it. Its page LSN is the greatest LSN of its writes after its last good read end, or 0; the durable mark the
+/// greatest LSN marked, or 0. It was written since a write-out began where some write of it came after that.
 pub fn unsaved_since_the_last_good_write_out()
     ensures unsaved { (past : Trail) (p : ℕ) → Decides (unsaved past p) (IsUnsaved past p) }
     ensures page_lsn { (past newest : Trail) (p : ℕ) → AreAfterLast (loads p) past newest →
@@ -189,16 +192,18 @@ pub fn unsaved_since_the_last_good_write_out()
 {}
 
 /// Redo has to begin where the least LSN of the unsaved writes is: no page has one where each is saved, no unsaved
-/// write has a lesser one, and the good end of a write-out never lowers it.
+/// write has a lesser one, and neither the good end of a write-out nor a discard lowers it.
 pub fn redo_begins_at_the_least_unsaved_lsn()
     ensures unsaved { (past : Trail) (p : ℕ) → is_some (first_lsn past p) ≡ unsaved past p }
     ensures none { (past : Trail) → ((p : ℕ) → IsFalse (unsaved past p)) → IsRedoFrom past None }
     ensures covers { (past later earlier : Trail) (e : Entry) (p n lsn : ℕ) →
         past ≡ later ++ e ∷ earlier → lsn_written p e ≡ Some n →
-        IsFalse (some (λ d. began_saving past p d.reply) later) → IsRedoFrom past (Some lsn) →
-        lsn ≤ n }
+        IsFalse (some (settles past p) later) → IsRedoFrom past (Some lsn) → lsn ≤ n }
     ensures rises { (c : Parameters) (past : Trail) (e : Entry) (t p a b : ℕ) →
         Legal c (e ∷ past) → e.call ≡ WriteEnd t p true → IsRedoFrom past (Some a) →
+        IsRedoFrom (e ∷ past) (Some b) → a ≤ b }
+    ensures rises_by_discard { (c : Parameters) (past : Trail) (e : Entry) (p a b : ℕ) →
+        Legal c (e ∷ past) → e.call ≡ Discard p → IsRedoFrom past (Some a) →
         IsRedoFrom (e ∷ past) (Some b) → a ≤ b }
 {}
 
@@ -211,7 +216,7 @@ pub fn held_is_the_last_read_with_later_writes()
         length (held past p) ≡ c.size }
     ensures image { (later earlier : Trail) (e : Entry) (t p n : ℕ) (image : List ℕ) →
         e.call ≡ ReadEnd t p (Some image) → e.reply ≡ Fixed n → IsFalse (some (loads p) later) →
-        held (later ++ e ∷ earlier) p ≡ plain_map (λ q. image) later p }
+        held (later ++ e ∷ earlier) p ≡ written_into (λ q. image) later p }
 {}
 
 /// What a read is due to give: the opening image where no write-out of the page has begun; else the image of the last
@@ -272,10 +277,24 @@ pub fn serials_out_were_given()
 {}
 
 /// In every legal trail the image that the device is due to give is known at each read end, and so it is for each read
-/// that is out.
+/// that is out, but of a page that was discarded since its last write-out began: that write-out may have failed.
 pub fn read_ends_find_what_is_due()
     ensures each { (c : Parameters) (past : Trail) → Legal c past → EachEntry FindsDue past }
     ensures out { (c : Parameters) (past : Trail) → Legal c past → ReadsAreKnown past }
+{}
+
+/// The plain map of a page that was never discarded is its opening image with its writes. At a discard it goes back to
+/// what the device is due to give, where that is known. So what was written since the page last went out is lost, and
+/// nothing else is.
+pub fn plain_map_has_the_writes_since_a_discard()
+    ensures writes { (c : Parameters) (m : ℕ → List ℕ) (past : Trail) (p : ℕ) → Legal c past →
+        IsFalse (some (discards p) past) → plain_map m past p ≡ written_into m past p }
+    ensures discarded { (m : ℕ → List ℕ) (past : Trail) (e : Entry) (p : ℕ) (image : List ℕ) →
+        IsTrue (discards p e) → due m past p ≡ Some image → plain_map m (e ∷ past) p ≡ image }
+    ensures since { (c : Parameters) (m : ℕ → List ℕ) (later earlier : Trail) (e : Entry) (p : ℕ)
+        (image : List ℕ) → Legal c (later ++ e ∷ earlier) → IsTrue (discards p e) →
+        IsFalse (some (discards p) later) → due m earlier p ≡ Some image →
+        plain_map m (later ++ e ∷ earlier) p ≡ written_into (λ q. image) later p }
 {}
 
 /// If the device gave back what was written to a page, whatever was in it at the opening: after every legal trail the
@@ -306,13 +325,19 @@ pub fn evictions_are_safe()
         e.reply ≡ WriteFirst t v image → IsFirst c before v) past }
 {}
 
-/// At each begin of a write-out in a legal trail every earlier write of that page has an LSN of at most the durable
-/// mark.
+/// A page that is discarded in a legal trail has no passes out, is not loading and is not being written out.
+pub fn discards_are_safe()
+    ensures { (c : Parameters) (past : Trail) → Legal c past → EachEntry DiscardsSafely past }
+{}
+
+/// At each begin of a write-out in a legal trail every earlier write of that page since its last discard has an LSN of
+/// at most the durable mark.
 pub fn write_outs_stay_behind_the_log()
     ensures { (c : Parameters) (past : Trail) → Legal c past → EachEntry WritesAreDurable past }
 {}
 
-/// Every legal trail is safe: at each eviction and at each begin of a write-out, as the two laws above say.
+/// Every legal trail is safe: at each eviction, at each discard and at each begin of a write-out, as the three laws
+/// above say.
 pub fn legal_trails_are_safe()
     ensures { (c : Parameters) (past : Trail) → Legal c past → Safe c past }
 {}

@@ -18,7 +18,7 @@ pub mod scripts;
 pub mod totals;
 
 pub use agreement::agrees;
-pub use ends::{Ended, Flushed, NotFlushed, refusal_of_read, reply_of_read};
+pub use ends::{Discarded, Ended, Flushed, NotFlushed, refusal_of_read, reply_of_read};
 pub use entries::{Call, Entry, Grant, Reply};
 pub use log_bound::is_within_log;
 pub use records::{LogRecord, redo_page, redo_record};

@@ -1,16 +1,16 @@
 //! Laws of a crash: what redo makes of the images that the device then has. Each function does nothing: its contract is
 //! the law.
-ghost use Rattle.std.specs.Prelude.{◌≡◌, ◌≤◌, ◌+◌, max, ◌↔◌, ℕ, Bool, true, List, ◌++◌, length, Contains, Option, IsTrue, nat_lt, nat_le};
+ghost use Rattle.std.specs.Prelude.{◌≡◌, ◌≤◌, ◌+◌, max, ◌↔◌, ℕ, Bool, true, List, ◌++◌, length, Contains, Option, IsTrue, IsFalse, nat_lt, nat_le};
 ghost use Rattle.bp_trail.specs.declared.entries.Entry.{Entry};
 ghost use Rattle.bp_trail.specs.declared.records.LogRecord.{LogRecord};
-ghost use Rattle.bp_trail.specs.Lists.{every};
+ghost use Rattle.bp_trail.specs.Lists.{some, every};
 ghost use Rattle.bp_trail.specs.Parameters.{Parameters};
 ghost use Rattle.bp_trail.specs.Trail.{Trail};
-ghost use Rattle.bp_trail.specs.Event.{lsn_of};
+ghost use Rattle.bp_trail.specs.Event.{discards, lsn_of};
 ghost use Rattle.bp_trail.specs.Clock.{durable};
 ghost use Rattle.bp_trail.specs.Places.{resident};
 ghost use Rattle.bp_trail.specs.Saved.{IsRedoFrom};
-ghost use Rattle.bp_trail.specs.Images.{held, plain_map};
+ghost use Rattle.bp_trail.specs.Images.{held, written_into, plain_map};
 ghost use Rattle.bp_trail.specs.Legal.{Legal};
 ghost use Rattle.bp_trail.specs.Device.{HonestOf};
 ghost use Rattle.bp_trail.specs.Standing.{Content};
@@ -18,9 +18,12 @@ ghost use Rattle.bp_trail.specs.Recovery.{NeverFall, Rise, AllFit, HasFullImage,
 
 /// Wherever a pool is stopped, redo recovers each page. Take whichever image of the page the device then has, of those
 /// that went out whole or the first one, and put the records of the log into it in order, from the redo point on. The
-/// page is then what the whole log makes of the image that it had at first. That is what the plain map has from the
-/// writes within the log, and after these any records whose write never came to be. So what the log has is there, and
-/// nothing else.
+/// page is then what the whole log makes of the image that it had at first. That is the writes within the log, put into
+/// that image, and after these any records whose write never came to be. So what the log has is there, and nothing else.
+/// It is the plain map, where each write is within the log.
+///
+/// A page that was discarded is recovered once it is used again: from the first write after it that gives all of its
+/// bytes.
 ///
 /// The LSNs of the page's records may not fall. Redo of the whole log, from 0 on, takes them in any order, and whatever
 /// was synced. The log may be redone piece by piece, the oldest first.
@@ -33,14 +36,17 @@ pub fn redo_recovers_each_page()
         (log : List LogRecord) (start from end p : ℕ) (image : List ℕ)
         (s : Stopped c first synced past log start from end p) →
         NeverFall (records_from start log p) → MayHave first synced past p image →
-        redo from log p image ≡ put s.has.unwritten (plain_map first (within end past) p) }
+        redo from log p image ≡ put s.has.unwritten (written_into first (within end past) p) }
     ensures whole { (c : Parameters) (first : ℕ → List ℕ) (synced past : Trail)
         (log : List LogRecord)
         (end p : ℕ) (image : List ℕ) → Legal c past → GaveBack c.size first end past p → durable past ≤ end →
         records_from 0 log p ≡ records p (within end past) → MayHave first synced past p image →
-        redo 0 log p image ≡ plain_map first (within end past) p }
+        redo 0 log p image ≡ written_into first (within end past) p }
     ensures in_pieces { (newer older : List LogRecord) (from p : ℕ) (image : List ℕ) →
         redo from (newer ++ older) p image ≡ redo from newer p (redo from older p image) }
+    ensures plain_map { (c : Parameters) (first : ℕ → List ℕ) (past : Trail) (end p : ℕ) →
+        Legal c past → GaveBack c.size first end past p →
+        plain_map first past p ≡ written_into first past p }
     ensures within { (end : ℕ) (past : Trail) (e : Entry) →
         Contains (within end past) e ↔ (Contains past e × (lsn_of e.call ≤ end)) }
 {}
@@ -50,37 +56,37 @@ pub fn redo_recovers_each_page()
 /// record, redo recovers the page from whatever image the device has. Only the reads of that page since then have to
 /// bring what was written. While it is resident it holds the plain map's image.
 ///
-/// If the log does not reach that record, redo recovers the page as it was before it was used again: of it nothing
-/// went out since.
+/// If the log does not reach that record, redo recovers the page as it was before it was used again, unless it was
+/// discarded before that: of it nothing went out since.
 pub fn redo_recovers_pages_used_again()
     ensures recovered { (c : Parameters) (first : ℕ → List ℕ) (synced past : Trail)
         (log : List LogRecord) (start from end p : ℕ) (image : List ℕ) → Legal c past →
         UsedAgain c.size first end past p → durable past ≤ end →
         (h : LogHas log start from end past p) → start ≤ from → IsRedoPoint from synced past p →
         NeverFall (records_from start log p) → MayHave first synced past p image →
-        redo from log p image ≡ put h.unwritten (plain_map first (within end past) p) }
+        redo from log p image ≡ put h.unwritten (written_into first (within end past) p) }
     ensures unlogged { (c : Parameters) (first : ℕ → List ℕ) (synced past : Trail)
         (log : List LogRecord) (start from end p : ℕ) (image : List ℕ) → Legal c past →
         durable past ≤ end → (r : ReadBeyond end past p) → GaveBack c.size first end r.earlier p →
         (h : LogHas log start from end past p) → start ≤ from → IsRedoPoint from synced past p →
         NeverFall (records_from start log p) → MayHave first synced past p image →
-        redo from log p image ≡ put h.unwritten (plain_map first (within end past) p) }
+        redo from log p image ≡ put h.unwritten (written_into first (within end past) p) }
     ensures held { (c : Parameters) (first : ℕ → List ℕ) (past : Trail) (end p : ℕ) → Legal c past →
         UsedAgain c.size first end past p → resident past p ≡ true →
         held past p ≡ plain_map first past p }
 {}
 
 /// A second pool begins with what the device has after a crash, and a client writes to it the records that redo wants
-/// of a page. Once the page is resident it has what the plain map had in the first run from the writes within the log,
-/// and what was written since.
+/// of a page, which it does not discard. Once the page is resident it has what the writes within the log of the first
+/// run made of it, and what was written since.
 pub fn redone_pages_hold_the_plain_map()
     ensures { (c d : Parameters) (first second : ℕ → List ℕ) (synced past again : Trail)
         (log newer : List LogRecord) (start from end p : ℕ)
         (s : Stopped c first synced past log start from end p) →
         NeverFall (records_from start log p) → MayHave first synced past p (second p) →
-        Legal d again → HonestOf second p again →
+        Legal d again → HonestOf second p again → IsFalse (some (discards p) again) →
         records p again ≡ newer ++ records_from from log p → resident again p ≡ true →
-        held again p ≡ put newer (put s.has.unwritten (plain_map first (within end past) p)) }
+        held again p ≡ put newer (put s.has.unwritten (written_into first (within end past) p)) }
 {}
 
 /// Redo by page LSN recovers each page too. It applies a record only if its LSN is above the page LSN that the device
@@ -113,7 +119,8 @@ pub fn redo_by_page_lsn_recovers_each_page()
 
 /// A checkpoint gives a redo point: the lesser of the LSN that came next when it began, and of the least LSN of the
 /// writes that had not gone out when the sync of the device began. Redo may begin there after a crash at any later
-/// time, even if the device has no more than what had ended well before that sync. It gives the plain map.
+/// time, even if the device has no more than what had ended well before that sync. It makes of the page what the writes
+/// within the log made of its first image.
 ///
 /// That least LSN may be asked for before the sync begins: the device has no other images by a newer sync than it may
 /// have by an older one. From the next LSN on come the later writes of this page. Other pages may have others.
@@ -128,7 +135,7 @@ pub fn checkpoint_gives_a_redo_point()
         (h : LogHas log start (redo_point least next) end (late ++ synced) p) → start ≤ redo_point least next →
         NeverFall (records_from start log p) → IsRedoFrom synced least → WritesFrom next p late →
         MayHave first synced (late ++ synced) p image → redo (redo_point least next) log p image ≡ put
-        h.unwritten (plain_map first (within end (late ++ synced)) p) }
+        h.unwritten (written_into first (within end (late ++ synced)) p) }
     ensures asked_before { (first : ℕ → List ℕ) (newer synced past : Trail) (p : ℕ)
         (image : List ℕ) →
         MayHave first (newer ++ synced) past p image → MayHave first synced past p image }
@@ -178,8 +185,8 @@ pub fn full_images_recover_torn_pages()
     ensures alone { (apply : LogRecord → List ℕ → List ℕ) (first : ℕ → List ℕ) (past : Trail)
         (log : List LogRecord) (start from end p : ℕ) (image : List ℕ)
         (h : LogHas log start from end past p) → AppliesAlike apply (records_from start log p) (first p) →
-        MakesAnew apply log start from p (first p) image →
-        apply_all apply (records_from from log p) image ≡ put h.unwritten (plain_map first (within end past) p) }
+        MakesAnew apply log start from p (first p) image → apply_all apply (records_from from log p) image ≡ put
+        h.unwritten (written_into first (within end past) p) }
     ensures by_page_lsn { (is_full : LogRecord → Bool) (apply : LogRecord → List ℕ → List ℕ)
         (first : ℕ → List ℕ) (past : Trail) (log : List LogRecord) (start from end p : ℕ) (x : Content)
         (h : LogHas log start from end past p) → start ≤ from → Rise (records_from start log p) →
@@ -188,7 +195,7 @@ pub fn full_images_recover_torn_pages()
         IsTrue (is_full w.full) → PutsIn apply (length (first p)) w.full →
         length x.image ≡ length (first p) →
         (redo_with_full_images is_full apply from log p x).image ≡
-        put h.unwritten (plain_map first (within end past) p) }
+        put h.unwritten (written_into first (within end past) p) }
     ensures bytes_are_put_in { (size : ℕ) (full : LogRecord) → full.offset ≡ 0 →
         length full.bytes ≡ size → PutsIn patch size full }
 {}

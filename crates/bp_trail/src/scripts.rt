@@ -33,6 +33,8 @@ pub enum Step {
     },
     /// Writes the page out, if it is unsaved.
     Flush(PageNo),
+    /// Has the page leave its frame without being written out, and forgets its references.
+    Discard(PageNo),
     /// Moves the clock on by so many ticks.
     Tick(u64),
     /// Forgets the references of pages that are neither resident nor loading and were last referenced more than the

@@ -11,14 +11,16 @@ pub struct Totals {
     pub hits: u64,
     /// Pages that came into a frame: read from the device, or new.
     pub faults: u64,
-    /// Pages that left a frame.
+    /// Pages that left a frame for another page.
     pub evictions: u64,
     /// Write-outs that ended well.
     pub writes: u64,
     /// Reads and write-outs that failed, and reads that found another page.
     pub failed: u64,
-    /// Calls that were refused with 11, 12 or 13.
+    /// Calls that were refused with 11, 12, 13 or 25.
     pub refused: u64,
+    /// Pages that left a frame because they were discarded.
+    pub discards: u64,
 }
 
 impl Totals {
@@ -32,6 +34,7 @@ impl Totals {
             writes: 0,
             failed: 0,
             refused: 0,
+            discards: 0,
         }
     }
 
@@ -63,14 +66,15 @@ impl Totals {
             Reply::ReadFailed | Reply::WrongPage | Reply::WriteFailed => {
                 self.failed = one_more(self.failed)
             }
-            Reply::NoVictim | Reply::NeedLog(_) | Reply::Busy => {
+            Reply::NoVictim | Reply::NeedLog(_) | Reply::Busy | Reply::Pinned => {
                 self.refused = one_more(self.refused)
             }
+            Reply::Discarded => self.discards = one_more(self.discards),
             _ => {}
         }
     }
 
-    /// Adds up two totals, as those of two pieces of one trail. `None` where one of the six sums would be above 2^64 −
+    /// Adds up two totals, as those of two pieces of one trail. `None` where one of the seven sums would be above 2^64 −
     /// 1.
     pub fn plus(self, more: Totals) -> Option<Totals>
         ensures sums { IfSome result (λ totals. totals ≡ both self more) }
@@ -83,6 +87,7 @@ impl Totals {
             writes: self.writes.checked_add(more.writes)?,
             failed: self.failed.checked_add(more.failed)?,
             refused: self.refused.checked_add(more.refused)?,
+            discards: self.discards.checked_add(more.discards)?,
         })
     }
 }

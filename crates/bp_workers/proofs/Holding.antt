@@ -6,13 +6,14 @@ use Rattle.bp_page.specs.declared.refusals.Refusal.{Refusal}
 use Rattle.bp_page.specs.declared.refusals.Refusal.TheVariants as refusal
 use Rattle.bp_core.specs.declared.passes.Pass.{Pass}
 use Rattle.bp_trail.specs.declared.ends.Flushed.{Flushed}
+use Rattle.bp_trail.specs.declared.ends.Discarded.{Discarded}
 use Rattle.bp_trail.specs.Event.{Grant, grant}
 use Rattle.bp_trail.specs.Trail.{Trail}
 use Rattle.bp_trail.specs.Passes.{passes_out}
 use Rattle.bp_trail.specs.Script.{held_passes, unfix_of}
 use Rattle.bp_trail.proofs.Counting.{filter-reverse}
 use Rattle.bp_session_log.specs.Turns.{ReadSaid, WriteSaid, TickSaid, PurgeSaid}
-use Rattle.bp_shared.specs.Sessions.{FixSaid, FlushSaid}
+use Rattle.bp_shared.specs.Sessions.{FixSaid, FlushSaid, DiscardSaid}
 
 -- a fix adds its pass, and no other call adds or takes any
 pub fix-holds : (client page : ℕ) (pass : Pass) (said after : Trail) (held held_after : List Grant) → FixSaid client page (Ok pass) said after → held ≡ held_passes said → held_after ≡ held ++ grant pass.client pass.page pass.serial ∷ []
@@ -27,6 +28,10 @@ refused_fix-holds client page why said after h = ap held_passes h.grows ∙ ap r
 pub flush-holds : (client page : ℕ) (answer : Result Flushed Refusal) (said after : Trail) → FlushSaid client page answer said after → held_passes after ≡ held_passes said
 flush-holds client page (Ok how) said after h = ap held_passes h.grows ∙ ap reverse (h.gives said)
 flush-holds client page (Err why) said after h = ap held_passes h.grows ∙ ap reverse (h.gives said)
+
+pub discard-holds : (client page : ℕ) (answer : Result Discarded Refusal) (said after : Trail) → DiscardSaid client page answer said after → held_passes after ≡ held_passes said
+discard-holds client page (Ok how) said after h = ap held_passes h.grows ∙ ap reverse (h.gives said)
+discard-holds client page (Err why) said after h = ap held_passes h.grows ∙ ap reverse (h.gives said)
 
 pub read-holds : (client : ℕ) (pass : Pass) (answer : Result (List ℕ) Refusal) (said after : Trail) → ReadSaid client pass answer said after → held_passes after ≡ held_passes said
 read-holds client pass (Ok image) said after h = ap held_passes h.1

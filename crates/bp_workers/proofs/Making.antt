@@ -40,6 +40,7 @@ step-fits p q (step.Unfix page) pages size fits = subst (λ n. page < n) (sym pa
 step-fits p q (step.Read page) pages size fits = subst (λ n. page < n) (sym pages) fits
 step-fits p q (step.Write page offset bytes lsn) pages size fits = (subst (λ n. page < n) (sym pages) fits.0, omega (arith, fits.1, size))
 step-fits p q (step.Flush page) pages size fits = subst (λ n. page < n) (sym pages) fits
+step-fits p q (step.Discard page) pages size fits = subst (λ n. page < n) (sym pages) fits
 step-fits p q (step.Tick n) pages size fits = tt
 step-fits p q step.Purge pages size fits = tt
 step-fits p q (step.Log lsn) pages size fits = tt

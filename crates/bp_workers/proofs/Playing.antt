@@ -2,13 +2,15 @@
 use Rattle.std.proofs.Common.{◌≡◌, refl, sym, ◌∙◌, ap, subst, ℕ, false, List, [], ◌∷◌, Option, Some, None}
 use Rattle.std.proofs.lemmas.List.{append-nil}
 use Rattle.bp_trail.specs.declared.entries.Call.{Call}
-use Rattle.bp_trail.specs.declared.entries.Call.TheVariants.{Tick, Read, Write, Unfix, Purge}
+use Rattle.bp_trail.specs.declared.entries.Call.TheVariants.{Tick, Read, Write, Unfix, Discard, Purge}
 use Rattle.bp_trail.specs.declared.entries.Reply.{Reply}
 use Rattle.bp_trail.specs.declared.scripts.Step.{Step}
 use Rattle.bp_trail.specs.declared.scripts.Step.TheVariants as step
 use Rattle.bp_trail.specs.Trail.{Trail}
 use Rattle.bp_trail.specs.Event.{Grant}
-use Rattle.bp_trail.specs.Pieces.{Outcome, OneCall}
+use Rattle.bp_trail.specs.Pieces.{Outcome, OneCall, DiscardGoesOn, DiscardPiece}
+use Rattle.bp_trail.specs.Pieces.DiscardGoesOn.{begins, waited}
+use Rattle.bp_trail.specs.Pieces.DiscardPiece.{discarded, absent, pinned, busy, no_room, no_memory}
 use Rattle.bp_trail.specs.Pieces.Manner.{session}
 use Rattle.bp_trail.specs.Pieces.Outcome.{accepted, refused}
 use Rattle.bp_trail.specs.Script.{latest_pass, WithPass, RowPiece, GivesBack, unfix_of}
@@ -36,6 +38,19 @@ module _ {P : Type 0} (reads : Reads P) (writes : Writes P) where
   with-pass-work past port numbers client call piece o None none h = subst (λ es. WorksThrough reads writes past es port port) (sym h.0) refl
   with-pass-work past port numbers client call piece o (Some g) none h = one-call-work past port numbers client (call g.serial) piece o (none g.serial) h
 
+  -- a discard asks nothing of the device, and neither does one more reply to it
+  waits-work : (past : Trail) (port : P) (client page : ℕ) (older : Trail) → DiscardGoesOn session client page older → WorksThrough reads writes past older port port
+  waits-work past port client page _ begins = refl
+  waits-work past port client page _ (waited own before) = (port, waits-work past port client page _ before, refl)
+
+  discard-work : (past : Trail) (port : P) (client page : ℕ) (piece : Trail) (o : Outcome) → DiscardPiece session client page piece o → WorksThrough reads writes past piece port port
+  discard-work past port client page _ _ (discarded before) = (port, waits-work past port client page _ before, refl)
+  discard-work past port client page _ _ (absent before) = (port, waits-work past port client page _ before, refl)
+  discard-work past port client page _ _ (pinned before) = (port, waits-work past port client page _ before, refl)
+  discard-work past port client page _ _ (busy driven before) = (port, waits-work past port client page _ before, refl)
+  discard-work past port client page _ _ (no_room before) = waits-work past port client page _ before
+  discard-work past port client page _ _ (no_memory before) = waits-work past port client page _ before
+
   -- a row without device work
   quiet-piece : (said piece : Trail) (port : P) (client : ℕ) (s : Step) (o : Outcome) → IsQuiet s → RowPiece session said client s piece o → WorksThrough reads writes said piece port port
   quiet-piece said piece port client (step.Fix page) o quiet h = absurd quiet
@@ -44,6 +59,7 @@ module _ {P : Type 0} (reads : Reads P) (writes : Writes P) where
   quiet-piece said piece port client (step.Read page) o quiet h = with-pass-work said port (20 ∷ 22 ∷ []) client (λ n. Read n page) piece o (latest_pass said client page) (λ n reply. refl) h
   quiet-piece said piece port client (step.Write page offset bytes lsn) o quiet h =
       with-pass-work said port (20 ∷ 22 ∷ []) client (λ n. Write n page offset bytes lsn) piece o (latest_pass said client page) (λ n reply. refl) h
+  quiet-piece said piece port client (step.Discard page) o quiet h = discard-work said port client page piece o h
   quiet-piece said piece port client (step.Tick n) o quiet h = one-call-work said port (20 ∷ 21 ∷ 22 ∷ []) client (Tick n) piece o (λ reply. refl) h
   quiet-piece said piece port client step.Purge o quiet h = one-call-work said port (20 ∷ 22 ∷ []) client Purge piece o (λ reply. refl) h
   quiet-piece said piece port client (step.Log lsn) o quiet h = subst (λ es. WorksThrough reads writes said es port port) (sym h.0) refl
@@ -65,6 +81,7 @@ module _ {P : Type 0} (reads : Reads P) (writes : Writes P) where
   step-work client (step.Unfix page) o said after port kept says none same = quiet client (step.Unfix page) o said after port kept tt says none same
   step-work client (step.Read page) o said after port kept says none same = quiet client (step.Read page) o said after port kept tt says none same
   step-work client (step.Write page offset bytes lsn) o said after port kept says none same = quiet client (step.Write page offset bytes lsn) o said after port kept tt says none same
+  step-work client (step.Discard page) o said after port kept says none same = quiet client (step.Discard page) o said after port kept tt says none same
   step-work client (step.Tick n) o said after port kept says none same = quiet client (step.Tick n) o said after port kept tt says none same
   step-work client step.Purge o said after port kept says none same = quiet client step.Purge o said after port kept tt says none same
   step-work client (step.Log lsn) o said after port kept says none same = quiet client (step.Log lsn) o said after port kept tt says none same

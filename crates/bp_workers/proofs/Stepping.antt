@@ -20,9 +20,10 @@ use Rattle.bp_trail.specs.Pieces.Manner.{session}
 use Rattle.bp_trail.specs.Pieces.Outcome.{accepted, refused}
 use Rattle.bp_trail.specs.Script.{is_pass_of, held_passes, latest_pass, WithPass, RowPiece, unfix_of}
 use Rattle.bp_trail.specs.declared.ends.Flushed.{Flushed}
+use Rattle.bp_trail.specs.declared.ends.Discarded.{Discarded}
 use Rattle.bp_device.proofs.PieceSteps.{find-there, at-first, at-second}
 use Rattle.bp_session_log.specs.Turns.{ReadSaid, WriteSaid, TickSaid, PurgeSaid}
-use Rattle.bp_shared.specs.Sessions.{FixSaid, FlushSaid}
+use Rattle.bp_shared.specs.Sessions.{FixSaid, FlushSaid, DiscardSaid}
 use Rattle.bp_workers.specs.Steps.{is_fault, as_fault, StepSaid}
 
 -- what a call without a result of its own answers
@@ -40,6 +41,12 @@ flush_said client page how said after h = inr (record { piece = h.piece; of_row 
 
 pub flush_refused : (client page : ℕ) (why : Refusal) (said after : Trail) → FlushSaid client page (Err why) said after → StepSaid client (step.Flush page) (outcome (Err why)) said after
 flush_refused client page why said after h = inr (record { piece = h.piece; of_row = h.of_row.0; grows = h.grows })
+
+pub discard_said : (client page : ℕ) (how : Discarded) (said after : Trail) → DiscardSaid client page (Ok how) said after → StepSaid client (step.Discard page) accepted said after
+discard_said client page how said after h = inr (record { piece = h.piece; of_row = h.of_row.0; grows = h.grows })
+
+pub discard_refused : (client page : ℕ) (why : Refusal) (said after : Trail) → DiscardSaid client page (Err why) said after → StepSaid client (step.Discard page) (outcome (Err why)) said after
+discard_refused client page why said after h = inr (record { piece = h.piece; of_row = h.of_row; grows = h.grows })
 
 -- one entry, or none
 pub one_said : (client : ℕ) (s : Step) (call : Call) (reply : Reply) (said after : Trail) → RowPiece session said client s (by client call reply ∷ []) accepted → after ≡ by client call reply ∷ said → StepSaid client s accepted said after

@@ -11,9 +11,10 @@ use Rattle.bp_trail.specs.Sentences.{IsCandidate, IsFirst}
 use Rattle.bp_trail.specs.Safety.{EvictsSafely, WritesAreDurable}
 use Rattle.bp_trail.specs.Claims.{AnswersPlain}
 
--- each reply is what the page map answers there; each page that leaves has no pins and is not
--- unsaved, and is the eligible page that comes first, so that none is farther; no image goes out
--- beyond the durable log; and each content is the plain map's, if the device was honest of its page
+-- each reply is what the page map answers there; each page that is evicted has no pins and is not
+-- unsaved, and is the eligible page that comes first, so that none is farther; where an image goes
+-- out the log is durable as far as each write of its page since its last discard; and each content is
+-- the plain map's, if the device was honest of its page
 pub record KeepsRules (c : Parameters) (trail : List Entry) : Type 0 where
   pub replies : EachEntry (λ before e. MayReply c before e.call e.reply) (reverse trail)
   pub evictions : EachEntry (EvictsSafely c) (reverse trail)

@@ -9,6 +9,8 @@ use Rattle.bp_trail.specs.Saved.{page_lsn}
 use Rattle.bp_core.specs.declared.passes.Pass.{Pass}
 use Rattle.bp_trail.specs.declared.ends.Ended.{Ended}
 use Rattle.bp_trail.specs.declared.ends.Ended.TheVariants as ended
+use Rattle.bp_trail.specs.declared.ends.Discarded.{Discarded}
+use Rattle.bp_trail.specs.declared.ends.Discarded.TheVariants as discarded
 use Rattle.bp_core.specs.declared.passes.EndRefusal.{EndRefusal}
 use Rattle.hojzmated_c.specs.EndRefusals.{number_of_end}
 use Rattle.bp_core.specs.CoreView.{CoreView, EachPast}
@@ -19,7 +21,7 @@ use Rattle.hojzmated_c.specs.declared.forms.HzGrant.{HzGrant}
 use Rattle.hojzmated_c.specs.declared.forms.HzStats.{HzStats}
 use Rattle.hojzmated_c.specs.declared.forms.HzUnsaved.{HzUnsaved}
 use Rattle.hojzmated_c.specs.Forms.{pass_of, shown_refusal, fault_of}
-use Rattle.hojzmated_c.specs.Outcomes.{Opens, Ticks, Marks, Purges, Fixes, Flushes, EndsRead, EndsWrite}
+use Rattle.hojzmated_c.specs.Outcomes.{Opens, Ticks, Marks, Purges, Fixes, Flushes, Discards, EndsRead, EndsWrite}
 use Rattle.hojzmated_c.specs.Outcomes.{FailsRead, ReadsPart, WritesPart}
 use Rattle.hojzmated_c.specs.Tellers.{TellsUnsaved, TellsVictim, TellsRedo, TellsStats, TellsResident}
 
@@ -88,6 +90,17 @@ Flushed old new client page image image' out out' number =
     (λ old new.
     Told number
     (λ r. Flushes old client page image r image' new × (out' ≡ shown_fix client page r)))
+
+-- 1 where the page left a frame and 0 where it was in none, which is written only where it is done
+abbrev pub left_or_else : Result Discarded Refusal → ℕ → ℕ
+left_or_else (Ok discarded.Left) old = 1
+left_or_else (Ok discarded.Absent) old = 0
+left_or_else (Err why) old = old
+
+abbrev pub PageDiscarded : Option CoreView → Option CoreView → ℕ → ℕ → ℕ → ℕ → ℕ → Type 0
+PageDiscarded old new client page was was' number =
+    OnCore old new number (was' ≡ was)
+    (λ old new. Told number (λ r. Discards old client page r new × (was' ≡ left_or_else r was)))
 
 abbrev pub ReadEnded : Option CoreView → Option CoreView → HzGrant → List ℕ → HzGrant → HzGrant → ℕ
     → Type 0

@@ -69,4 +69,5 @@ shown_stats s = record {
   unsaved = s.unsaved;
   loading = s.loading;
   writing = s.writing;
+  discards = s.totals.discards;
 }

@@ -19,11 +19,12 @@ use Rattle.bp_core.specs.declared.passes.Flush.TheVariants as flushing
 use Rattle.bp_core.specs.declared.passes.ReadTicket.{ReadTicket}
 use Rattle.bp_core.specs.declared.passes.WriteTicket.{WriteTicket}
 use Rattle.bp_trail.specs.declared.ends.Ended.{Ended}
+use Rattle.bp_trail.specs.declared.ends.Discarded.{Discarded}
 use Rattle.bp_core.specs.declared.passes.EndRefusal.{EndRefusal}
 use Rattle.hojzmated_c.specs.EndRefusals.{number_of_end}
 use Rattle.bp_core.specs.CoreView.{CoreView, EachPast}
 use Rattle.bp_core.specs.Outcomes.{IsFitUpTo, TakesMemory, StepOutcome, TickOutcome, PurgeOutcome}
-use Rattle.bp_core.specs.Outcomes.{FixOutcome, FlushOutcome, ReadEndByOutcome}
+use Rattle.bp_core.specs.Outcomes.{FixOutcome, FlushOutcome, DiscardOutcome, ReadEndByOutcome}
 use Rattle.bp_core.specs.Outcomes.{ReadIntoOutcome}
 use Rattle.bp_core.specs.Outcomes.{WriteEndByOutcome, WriteOutcome}
 use Rattle.hojzmated_c.specs.declared.forms.HzConfig.{HzConfig}
@@ -154,6 +155,11 @@ Flushes old client page before result image new =
     (ForPage old page result new
     (ForImage old before result new (FlushTold old client page before result image new)))
     × OnErr result (image ≡ before)
+
+abbrev pub Discards : CoreView → ℕ → ℕ → Result Discarded Refusal → CoreView → Type 0
+Discards old client page result new =
+    ForClient old client result new
+    (ForPage old page result new (DiscardOutcome old client page result new))
 
 -- a read that went well gives a pass: a ticket that is not out is unknown, and memory may be
 -- wanting for the image of one that is

@@ -67,6 +67,7 @@ pub struct HzStats {
     pub unsaved: usize,
     pub loading: usize,
     pub writing: usize,
+    pub discards: u64,
 }
 
 /// The page is resident: the grant is a pass.
@@ -93,7 +94,7 @@ const _: () = prove!(size_of::<HzFixed>() == 48);
 
 const _: () = prove!(size_of::<HzUnsaved>() == 32);
 
-const _: () = prove!(size_of::<HzStats>() == 88);
+const _: () = prove!(size_of::<HzStats>() == 96);
 
 impl HzGrant {
     pub(crate) fn grant(&self) -> Grant
@@ -172,6 +173,7 @@ impl HzStats {
             unsaved: stats.unsaved,
             loading: stats.loading,
             writing: stats.writing,
+            discards: stats.totals.discards,
         }
     }
 }

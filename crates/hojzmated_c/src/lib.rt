@@ -10,7 +10,7 @@
 ghost use Rattle.std.specs.Prelude.{◌≡◌, None, is_some, if◌then◌else◌, Ok, Err, IfOk, IfErr, length};
 ghost use Rattle.hojzmated_c.specs.Texts.{begun_with, text_of};
 ghost use Rattle.hojzmated_c.specs.Outcomes.{Opens, answer_of};
-ghost use Rattle.hojzmated_c.specs.Exports.{code_of, Made, Ticked, Marked, Purged, Asked, Flushed, ReadEnded, ReadFailed, WriteEnded, PageLent, LsnTold, PartRead, PartWrote, Unfixed, NextTold, VictimTold, RedoTold, StatsTold, ResidentTold, shown_fix};
+ghost use Rattle.hojzmated_c.specs.Exports.{code_of, Made, Ticked, Marked, Purged, Asked, Flushed, PageDiscarded, ReadEnded, ReadFailed, WriteEnded, PageLent, LsnTold, PartRead, PartWrote, Unfixed, NextTold, VictimTold, RedoTold, StatsTold, ResidentTold, shown_fix};
 
 mod forms;
 mod handle;
@@ -21,7 +21,7 @@ mod texts;
 use crate::forms::{HzConfig, HzFixed, HzGrant, HzStats, HzUnsaved};
 pub use crate::handle::HzCore;
 use crate::pool::Pool;
-use bp_core::{EndRefusal, Ended};
+use bp_core::{Discarded, EndRefusal, Ended};
 use bp_page::Refusal;
 use std::alloc::Global;
 use std::ptr;
@@ -32,7 +32,7 @@ const NO_CORE: u16 = 50;
 /// The handle has a core already.
 const HAS_CORE: u16 = 51;
 
-const VERSION: u32 = 1100;
+const VERSION: u32 = 1200;
 
 /// Returns 0, or the number of the refusal.
 fn code<T>(answer: &Result<T, Refusal>) -> u16
@@ -75,7 +75,7 @@ fn boxed(alloc: Global, config: &HzConfig) -> Result<Box<Pool, Global>, Refusal>
 /// Returns the version of the library: major * 10,000 + minor * 100 + patch.
 #[unsafe(no_mangle)]
 pub extern "C" fn proved_hz_version() -> u32
-    ensures { result ≡ 1100 }
+    ensures { result ≡ 1200 }
 {
     VERSION
 }
@@ -199,6 +199,32 @@ pub extern "C" fn proved_hz_flush(
     *core = HzCore::of(pool);
     shown(client, page, &flushed, out);
     code(&flushed)
+}
+
+/// Has a page leave its frame unwritten, and tells whether it was in one. Its references are forgotten.
+#[unsafe(no_mangle)]
+pub extern "C" fn proved_hz_discard(
+    alloc: Global,
+    core: &mut HzCore,
+    client: u8,
+    page: u64,
+    was_resident: &mut u8,
+) -> u16
+    ensures { PageDiscarded core.old.seal.pool core.new.seal.pool client page
+        was_resident.old was_resident.new result }
+{
+    let Some(mut pool) = core.take(alloc) else {
+        return NO_CORE;
+    };
+    let discarded = pool.discard(client, page);
+    *core = HzCore::of(pool);
+    if let Ok(how) = discarded {
+        *was_resident = match how {
+            Discarded::Left => 1,
+            Discarded::Absent => 0,
+        };
+    }
+    code(&discarded)
 }
 
 /// Ends a read that went well: the page is in a frame, and `pass` becomes its pass. A refusal leaves `pass` as it was.

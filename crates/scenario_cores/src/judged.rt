@@ -70,6 +70,7 @@ fn plain(call: &Said) -> Option<(u8, Call)> {
     match call.verb {
         Verb::Fix => Some((client, Call::Fix(PageNo::new(second)))),
         Verb::Flush => Some((client, Call::Flush(PageNo::new(second)))),
+        Verb::Discard => Some((client, Call::Discard(PageNo::new(second)))),
         Verb::Tick => Some((client, Call::Tick(second))),
         Verb::Mark => Some((client, Call::Mark(Lsn::new(second)))),
         Verb::Purge => Some((client, Call::Purge)),

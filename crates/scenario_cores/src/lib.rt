@@ -19,7 +19,8 @@ pub use devices::{Device, new_device};
 pub use judged::{Judged, new_judged};
 pub use lists::{LOST, Lists, grant_of, join, new_lists, pass_of};
 pub use outcomes::{
-    content, done, flushed, flushed_all, forgot, lsn_or_none, page_or_none, stats_of, went,
+    content, discarded, done, flushed, flushed_all, forgot, lsn_or_none, page_or_none, stats_of,
+    went,
 };
 pub use owned::{Owned, new_owned, owned_of};
 pub use pools::{Pool, new_pool, pool_of};

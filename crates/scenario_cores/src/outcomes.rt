@@ -1,6 +1,6 @@
 //! Answers from the results of calls.
 
-use bp_core::Stats;
+use bp_core::{Discarded, Stats};
 use bp_device::{Flushed, NotFlushed};
 use bp_page::{Image, Lsn, PageNo, PortFault, Refusal};
 use bp_trail::Reply;
@@ -29,6 +29,13 @@ pub fn flushed(outcome: Result<Flushed, Refusal>) -> Answer {
         Ok(Flushed::Absent) => Answer::Reply(Reply::Absent),
         Ok(Flushed::Cleaned) => Answer::Reply(Reply::Cleaned),
         Ok(Flushed::StillDirty) => Answer::Reply(Reply::StillDirty),
+        Err(refusal) => Answer::Refused(refusal),
+    }
+}
+
+pub fn discarded(outcome: Result<Discarded, Refusal>) -> Answer {
+    match outcome {
+        Ok(how) => Answer::Reply(how.reply()),
         Err(refusal) => Answer::Refused(refusal),
     }
 }

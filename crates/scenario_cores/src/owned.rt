@@ -4,7 +4,7 @@ use crate::buffers::{Span, bytes_read};
 use crate::devices::{Device, call_device, new_device};
 use crate::lists::{LOST, Lists, grant_of, new_lists, pass_of};
 use crate::observing::{answer_of_page, digest_of};
-use crate::outcomes::{done, flushed, flushed_all, forgot, lsn_or_none, stats_of, went};
+use crate::outcomes::{discarded, done, flushed, flushed_all, forgot, lsn_or_none, stats_of, went};
 use crate::pools::{Pool, pool_of};
 use bp_core::{Keeper, PoolCore, Settings};
 use bp_device::{FusePort, MemDevice, MemPort, OwnedPool, Port};
@@ -157,6 +157,7 @@ impl<K: Keeper> Owned<K> {
             Verb::Look => self.look(rt, page),
             Verb::Flush => flushed(self.pool.flush(rt, page)),
             Verb::FlushAll => flushed_all(self.pool.flush_all(rt)),
+            Verb::Discard => discarded(self.pool.discard(page)),
             Verb::Tick => done(self.pool.tick(number)),
             Verb::Mark => done(self.pool.mark(Lsn::new(number))),
             Verb::Purge => forgot(self.pool.purge()),
@@ -248,6 +249,7 @@ impl<K: Keeper> Owned<K> {
             | Verb::Look
             | Verb::Flush
             | Verb::FlushAll
+            | Verb::Discard
             | Verb::Tick
             | Verb::Mark
             | Verb::Purge => self.by_owner(rt, call),

@@ -4,7 +4,7 @@ ghost use Rattle.std.specs.Prelude.{◌≡◌, ◌<◌, IfSome, IsTrue};
 use crate::devices::{Device, device_for};
 use crate::lists::{LOST, Lists, new_lists};
 use crate::observing::digest_of;
-use crate::outcomes::{done, flushed, forgot};
+use crate::outcomes::{discarded, done, flushed, forgot};
 use bp_core::{Fix, Flush, Keeper, PoolCore, ReadTicket, Settings, WriteTicket};
 use bp_device::{Port, drive_fix, drive_flush};
 use bp_page::{Geometry, Image, Lsn, PageNo, Refusal};
@@ -177,6 +177,7 @@ impl<K: Keeper> Pool<K> {
             Verb::Purge => forgot(self.core.purge(client)),
             Verb::Fix if self.has_page(page) => self.fix(rt, client, page),
             Verb::Flush if self.has_page(page) => self.flush(rt, client, page),
+            Verb::Discard if self.has_page(page) => discarded(self.core.discard(client, page)),
             Verb::New if self.has_page(page) => self.fix_new(rt, client, page),
             Verb::FlushAll => self.flush_all(rt, client),
             _ => Answer::BadLine,
@@ -206,6 +207,7 @@ impl<K: Keeper> Pool<K> {
             | Verb::New
             | Verb::Flush
             | Verb::FlushAll
+            | Verb::Discard
             | Verb::Tick
             | Verb::Mark
             | Verb::Purge => self.by_client(rt, call),

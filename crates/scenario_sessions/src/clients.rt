@@ -9,8 +9,8 @@ use bp_page::{Geometry, Lsn, Refusal};
 use bp_shared::{PoolName, Session, SharedPool};
 use bp_trail::agrees;
 use scenario_cores::{
-    Lists, bytes_read, content, done, flushed, flushed_all, forgot, grant_of, lsn_or_none,
-    page_or_none, pass_of, span_of, stats_of, went,
+    Lists, bytes_read, content, discarded, done, flushed, flushed_all, forgot, grant_of,
+    lsn_or_none, page_or_none, pass_of, span_of, stats_of, went,
 };
 use scenario_words::{Answer, Said, Verb, named};
 use std::alloc::Global;
@@ -119,7 +119,7 @@ fn fixed(lists: &mut Lists, outcome: Result<Pass, Refusal>) -> Answer {
     }
 }
 
-/// Fixes a page, or a new one, or flushes one.
+/// Fixes a page, or a new one, or flushes or discards one.
 fn by_page<N: PoolName, K: Kind, R: Wait>(
     rt: &R,
     pool: &SharedPool<N, K>,
@@ -137,6 +137,7 @@ fn by_page<N: PoolName, K: Kind, R: Wait>(
     };
     match call.verb {
         Verb::Flush => flushed(pool.flush(rt, session, port, page)),
+        Verb::Discard => discarded(pool.discard(rt, session, page)),
         Verb::New => fixed(lists, pool.fix_new(rt, session, port, page)),
         _ => fixed(lists, pool.fix(rt, session, port, page)),
     }
@@ -270,7 +271,9 @@ pub(crate) fn call<N: PoolName, K: Kind, R: Wait>(
     ensures port { port.new.inner.inner.device ≡ port.old.inner.inner.device }
 {
     match call.verb {
-        Verb::Fix | Verb::New | Verb::Flush => by_page(rt, pool, session, port, lists, call),
+        Verb::Fix | Verb::New | Verb::Flush | Verb::Discard => {
+            by_page(rt, pool, session, port, lists, call)
+        }
         Verb::FlushAll => flushed_all(pool.flush_all(rt, session, port)),
         Verb::Sync => went(port.sync(rt)),
         Verb::Read | Verb::ReadInto | Verb::Unfix | Verb::Write | Verb::WriteFrom => {

@@ -107,6 +107,7 @@ fn drains(verb: Verb) -> bool {
             | Verb::New
             | Verb::Flush
             | Verb::FlushAll
+            | Verb::Discard
             | Verb::Next
             | Verb::Redo
             | Verb::Stats

@@ -38,6 +38,7 @@ fn write_call<W: fmt::Write>(client: u8, call: &Call, f: &mut fmt::Formatter<W>)
         Call::Mark(lsn) => ("mark", lsn.number()),
         Call::Fix(page) => ("fix", page.number()),
         Call::Flush(page) => ("flush", page.number()),
+        Call::Discard(page) => ("discard", page.number()),
         Call::Purge => return write!(f, "purge {client}"),
         _ => return write_use(client, call, f),
     };
@@ -118,10 +119,12 @@ fn word_of(reply: &Reply) -> &'static str {
         Reply::ReadFailed => "17",
         Reply::WriteFailed => "18",
         Reply::WrongPage => "19",
+        Reply::Pinned => "25",
         Reply::Cleaned => "cleaned",
         Reply::StillDirty => "still dirty",
         Reply::Clean => "clean",
         Reply::Absent => "absent",
+        Reply::Discarded => "discarded",
         _ => "done",
     }
 }

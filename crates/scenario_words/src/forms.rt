@@ -4,9 +4,10 @@ use crate::calls::Verb;
 use bp_page::PortFault;
 
 /// The calls of what lines make.
-pub(crate) const CALLS: [(&str, Verb); 65] = [
+pub(crate) const CALLS: [(&str, Verb); 66] = [
     ("fix N N", Verb::Fix),
     ("flush N N", Verb::Flush),
+    ("discard N N", Verb::Discard),
     ("tick N N", Verb::Tick),
     ("mark N N", Verb::Mark),
     ("purge N", Verb::Purge),
@@ -79,11 +80,12 @@ pub(crate) const CALLS: [(&str, Verb); 65] = [
 ];
 
 /// The calls of a pool that sessions use. A call by a session has the client as its first word.
-pub(crate) const SESSION_CALLS: [(&str, Verb); 25] = [
+pub(crate) const SESSION_CALLS: [(&str, Verb); 26] = [
     ("N fix N", Verb::Fix),
     ("N new N", Verb::New),
     ("N flush N", Verb::Flush),
     ("N flush_all", Verb::FlushAll),
+    ("N discard N", Verb::Discard),
     ("N sync", Verb::Sync),
     ("N next N", Verb::Next),
     ("N redo", Verb::Redo),
@@ -108,7 +110,7 @@ pub(crate) const SESSION_CALLS: [(&str, Verb); 25] = [
 ];
 
 /// The replies of entries.
-pub(crate) const REPLIES: [(&str, Verb); 17] = [
+pub(crate) const REPLIES: [(&str, Verb); 19] = [
     ("done", Verb::Done),
     ("11", Verb::NoVictim),
     ("12 lsn N", Verb::NeedLog),
@@ -116,10 +118,12 @@ pub(crate) const REPLIES: [(&str, Verb); 17] = [
     ("17", Verb::ReadFailed),
     ("18", Verb::WriteFailed),
     ("19", Verb::WrongPage),
+    ("25", Verb::Pinned),
     ("cleaned", Verb::Cleaned),
     ("still dirty", Verb::StillDirty),
     ("clean", Verb::Clean),
     ("absent", Verb::Absent),
+    ("discarded", Verb::Discarded),
     ("pass N", Verb::Pass),
     ("load N", Verb::Load),
     ("load N evicts N", Verb::LoadEvicts),

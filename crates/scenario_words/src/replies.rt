@@ -19,10 +19,12 @@ fn without_image(said: &Said, call: Verb) -> Option<Reply> {
         Verb::ReadFailed => Some(Reply::ReadFailed),
         Verb::WriteFailed => Some(Reply::WriteFailed),
         Verb::WrongPage => Some(Reply::WrongPage),
+        Verb::Pinned => Some(Reply::Pinned),
         Verb::Cleaned => Some(Reply::Cleaned),
         Verb::StillDirty => Some(Reply::StillDirty),
         Verb::Clean => Some(Reply::Clean),
         Verb::Absent => Some(Reply::Absent),
+        Verb::Discarded => Some(Reply::Discarded),
         Verb::Forgot => Some(Reply::Forgot(first)),
         Verb::Load => Some(Reply::Load {
             ticket: first,

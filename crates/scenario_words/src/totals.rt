@@ -18,7 +18,7 @@ pub fn totals_of(alloc: Global, entries: &[Entry], unread: u64) -> Answer {
     }
 }
 
-/// Returns the number of entries that are refusals with 11, 12 or 13.
+/// Returns the number of entries that are refusals with 11, 12, 13 or 25.
 pub fn refusals_of(entries: &[Entry]) -> Answer {
     Answer::Number(Totals::of(entries).refused)
 }

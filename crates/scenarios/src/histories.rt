@@ -1,6 +1,6 @@
 //! `Timed`, the histories of LRU-K alone.
 ghost use Rattle.std.specs.Prelude.{ℕ, ◌≤◌};
-ghost use Rattle.bp_replacer.specs.Histories.{last_of};
+ghost use Rattle.bp_replacer.specs.Histories.{latest_of};
 
 use bp_lruk::{Histories, Settings};
 use bp_page::{PageNo, Refusal};
@@ -17,7 +17,7 @@ const PAGES: u64 = 24;
 pub struct Timed {
     histories: Histories,
     now: u64,
-    ghost by_now: { (page : ℕ) → last_of histories page ≤ now },
+    ghost by_now: { (page : ℕ) → latest_of histories page ≤ now },
 }
 
 /// Makes histories without a reference. It is `BadSettings` where a setting is out of its limits.

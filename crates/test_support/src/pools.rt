@@ -6,7 +6,7 @@ ghost use Rattle.std.specs.Prelude.{◌≡◌, []};
 ghost use Rattle.bp_trail.specs.Parameters.{Parameters};
 ghost use Rattle.bp_page.specs.declared.limits.Geometry.{Geometry as AGeometry};
 
-use bp_core::{Call, Entry, PassNote, PoolCore, Settings};
+use bp_core::{Call, Discarded, Entry, PassNote, PoolCore, Settings};
 use bp_device::{Flushed, MemDevice, Port};
 use bp_keeper::{ListKeeper, RecordingKeeper};
 use bp_mark::LogEnd;
@@ -189,6 +189,20 @@ pub fn flush<N: PoolName, P: Port, K: ListKeeper, R: Wait>(
 {
     match client.port.geometry().page(number) {
         Some(page) => pool.flush(rt, &mut client.session, &mut client.port, page),
+        None => Err(Refusal::OutOfPage),
+    }
+}
+
+pub fn discard<N: PoolName, P: Port, K: ListKeeper, R: Wait>(
+    rt: &R,
+    pool: &SharedPool<N, K>,
+    client: &mut Client<N, P, K>,
+    number: u64,
+) -> Result<Discarded, Refusal>
+    ensures client { client.new.session.client ≡ client.old.session.client }
+{
+    match client.port.geometry().page(number) {
+        Some(page) => pool.discard(rt, &mut client.session, page),
         None => Err(Refusal::OutOfPage),
     }
 }

@@ -64,9 +64,11 @@ fn row_fits(core: &Core, row: &Row) -> bool
     let geometry = core.geometry();
     row.client < core.clients()
         && match &row.step {
-            Step::Fix(page) | Step::Unfix(page) | Step::Read(page) | Step::Flush(page) => {
-                page.number() < geometry.pages
-            }
+            Step::Fix(page)
+            | Step::Unfix(page)
+            | Step::Read(page)
+            | Step::Flush(page)
+            | Step::Discard(page) => page.number() < geometry.pages,
             Step::Write {
                 page,
                 offset,

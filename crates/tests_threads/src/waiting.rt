@@ -6,7 +6,7 @@ ghost use Rattle.std.specs.Prelude.{◌≡◌};
 
 use crate::gates::Gate;
 use crate::making::{Fails, Way, change, clients_of, counts, look, on_device};
-use bp_core::{Entry, Reply};
+use bp_core::{Discarded, Entry, Reply};
 use bp_device::{Flushed, MemDevice};
 use bp_page::Refusal;
 use bp_shared::{PoolName, SharedPool, Taker};
@@ -18,7 +18,7 @@ use std::sync::{Mutex, Wait};
 use std::thread;
 use std::thread::Threads;
 use test_support::judging::{setup_of, unlawful};
-use test_support::pools::{Made, Opened, flush, make, open};
+use test_support::pools::{Made, Opened, discard, flush, make, open};
 
 /// The calls of the clients about page 1.
 #[derive(Clone, Copy)]
@@ -27,6 +27,10 @@ enum Ask {
     Flush,
     /// The first one fixes page 2, for which page 1 has to go out; the others flush page 1.
     MakeWay,
+    /// The first one fixes the page, and the others discard it.
+    DiscardRead,
+    /// The first one flushes the page, and the others discard it.
+    DiscardWritten,
 }
 
 #[derive(Clone, Copy, PartialEq, Eq, Debug, Drop)]
@@ -34,6 +38,7 @@ enum Answer {
     Nothing,
     Byte(Option<u8>),
     Flushed(Flushed),
+    Discarded(Discarded),
     Refused(Refusal),
 }
 
@@ -75,12 +80,30 @@ fn flushed(answer: Result<Flushed, Refusal>) -> Answer {
     }
 }
 
+fn discarded(answer: Result<Discarded, Refusal>) -> Answer {
+    match answer {
+        Ok(discarded) => Answer::Discarded(discarded),
+        Err(refusal) => Answer::Refused(refusal),
+    }
+}
+
+impl Ask {
+    /// Returns true if the last client changes page 1 before.
+    fn is_of_changed(self) -> bool {
+        !matches!(self, Ask::Fix | Ask::DiscardRead)
+    }
+}
+
 impl<N: PoolName> Runner<N> {
     fn ask<R: Wait + Abort>(&mut self, rt: &R, pool: &SharedPool<N>, ask: Ask) {
         let is_first = self.client.session.client() == 0;
         self.answer = match ask {
             Ask::Fix => fixed(look(rt, pool, &mut self.client, 1)),
             Ask::MakeWay if is_first => fixed(look(rt, pool, &mut self.client, 2)),
+            Ask::DiscardRead if is_first => fixed(look(rt, pool, &mut self.client, 1)),
+            Ask::DiscardRead | Ask::DiscardWritten if !is_first => {
+                discarded(discard(rt, pool, &mut self.client, 1))
+            }
             _ => flushed(flush(rt, pool, &mut self.client, 1)),
         };
     }
@@ -181,7 +204,7 @@ fn answers_of<N: PoolName>(runners: &[Runner<N>]) -> [Answer; 3] {
     answers
 }
 
-/// Returns the first client's gate. Except for `Ask::Fix`, the last client changes page 1 before.
+/// Returns the first client's gate. The last client changes page 1 before, where that is asked for.
 fn prepare<N: PoolName, R: Wait + Abort + AllocGlobal>(
     rt: &R,
     pool: &SharedPool<N>,
@@ -189,7 +212,7 @@ fn prepare<N: PoolName, R: Wait + Abort + AllocGlobal>(
     ask: Ask,
 ) -> Gate {
     if let Some(last) = runners.last_mut()
-        && !matches!(ask, Ask::Fix)
+        && ask.is_of_changed()
     {
         change(rt, pool, &mut last.client);
     }
@@ -234,7 +257,7 @@ struct Table<N: PoolName> {
     device: MemDevice,
 }
 
-/// Opens the pool. Except for `Ask::Fix`, its last client has changed page 1.
+/// Opens the pool. Its last client has changed page 1, where that is asked for.
 fn open_table<N: PoolName, R: Wait + Abort + AllocGlobal>(
     rt: &R,
     made: Made,
@@ -420,4 +443,44 @@ fn waits_for_a_failing_write_out_of_a_fix(rt: HostRuntime) {
     for spoil in [false, true] {
         expect_written(&rt, &run_together(&rt, 1, 1, spoil, Ask::MakeWay));
     }
+}
+
+/// Returns true if one of the threads that waited had the page leave, and the other found it away.
+fn one_discarded(answers: &[Answer; 3]) -> bool {
+    let left = Answer::Discarded(Discarded::Left);
+    let absent = Answer::Discarded(Discarded::Absent);
+    let [_, second, third] = *answers;
+    (second == left && third == absent) || (second == absent && third == left)
+}
+
+/// The page leaves once it was written out, for one of the threads that waited. The device has what went out.
+#[test]
+fn discard_waits_for_a_write_out(rt: HostRuntime) {
+    let done = run_together(&rt, 2, 0, false, Ask::DiscardWritten);
+    let [first, _, _] = done.answers;
+    assert!(rt; one_discarded(&done.answers), "{done:?}");
+    assert_eq!(rt;
+        (first, counts(&done.totals), done.after, done.on_device),
+        (
+            Answer::Flushed(Flushed::Cleaned),
+            [0, 2, 0, 1, 0],
+            Ok(Some(5)),
+            Some(5)
+        )
+    );
+}
+
+/// The read fails, and both threads that waited find the page away.
+#[test]
+fn discard_waits_for_a_failing_read(rt: HostRuntime) {
+    let done = run_together(&rt, 2, 1, false, Ask::DiscardRead);
+    let refused = Answer::Refused(Refusal::ReadFailed);
+    assert!(rt;
+        are(&done.answers, refused, Answer::Discarded(Discarded::Absent)),
+        "{done:?}"
+    );
+    assert_eq!(rt;
+        (counts(&done.totals), done.after),
+        ([0, 1, 0, 0, 1], Ok(Some(0)))
+    );
 }

@@ -213,6 +213,7 @@ fn expect_entries<R: Abort>(rt: &R, entries: &[Entry]) {
         writes: 1,
         failed: 0,
         refused: 2,
+        discards: 0,
     };
     assert_eq!(rt;
         (Totals::of(entries), ticks(entries), entries.len()),

@@ -45,6 +45,7 @@ impl<'a> Past<'a> {
             Call::Tick(steps) => self.in_time(*steps),
             Call::Fix(page) => self.in_file(*page),
             Call::Flush(page) => self.in_file(*page),
+            Call::Discard(page) => self.in_file(*page),
             Call::ReadEnd {
                 ticket,
                 page,

@@ -8,7 +8,7 @@ ghost use Rattle.bp_check.specs.Setups.{parameters_of};
 ghost use Rattle.bp_check.specs.Seen.{passed_on, pages_after, AreEnded, KeepsSpans};
 
 use crate::events::{
-    evicted, loaded, marked, page_of, pass_back, pass_of, read_ticket_back, read_ticket_of,
+    discards, left, loaded, marked, page_of, pass_back, pass_of, read_ticket_back, read_ticket_of,
     ticket_given, ticks, well_ended, write_ticket_back, write_ticket_of,
 };
 use crate::grants::Grants;
@@ -16,11 +16,11 @@ use crate::past::Past;
 use crate::residents::Residents;
 use crate::scans::at_least;
 use crate::setup::Setup;
-use crate::spans::{Span, forget, refer_at};
+use crate::spans::{Span, drop_at, forget, refer_at};
 use bp_trail::{Entry, Reply};
 use std::alloc::AllocError;
 
-/// Notes the reference that an entry makes, or forgets those that a purge does.
+/// Notes the reference that an entry makes, or forgets those that a discard or a purge does.
 fn note_references(
     setup: &Setup,
     clock: u64,
@@ -38,6 +38,10 @@ fn note_references(
 {
     let page = page_of(&e.call);
     let correlated = setup.settings.correlated;
+    if discards(page, e) {
+        drop_at(spans, page);
+        return Ok(());
+    }
     match &e.reply {
         Reply::Hit(_) => {
             refer_at(spans, page, correlated, true, clock)?;
@@ -93,7 +97,7 @@ fn pass_on(
     passes_out.pass_on(pass_back(&e.call), pass_of(e))?;
     reads_out.pass_on(read_ticket_back(&e.call), read_ticket_of(e))?;
     writes_out.pass_on(write_ticket_back(&e.call), write_ticket_of(e))?;
-    residents.pass_on(evicted(&e.reply), loaded(e))
+    residents.pass_on(left(e), loaded(e))
 }
 
 fn one_if(given: bool) -> u64

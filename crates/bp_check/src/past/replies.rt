@@ -83,6 +83,22 @@ impl<'a> Past<'a> {
         }
     }
 
+    fn discard_reply(&self, page: PageNo) -> Reply
+        ensures { result ≡ of.discard_reply self.now.past page }
+    {
+        if self.loading(page) {
+            Reply::Busy
+        } else if !self.resident(page) {
+            Reply::Absent
+        } else if self.writing(page) {
+            Reply::Busy
+        } else if self.pins(page) == 0 {
+            Reply::Discarded
+        } else {
+            Reply::Pinned
+        }
+    }
+
     fn write_end_reply(&self, ticket: u64, page: PageNo, good: bool) -> Reply
         ensures { result ≡ of.write_end_reply self.now.past ticket page good }
     {
@@ -113,6 +129,7 @@ impl<'a> Past<'a> {
         match call {
             Call::Fix(page) => self.fix_reply(alloc, *page),
             Call::Flush(page) => self.flush_reply(alloc, *page),
+            Call::Discard(page) => Ok(self.discard_reply(*page)),
             Call::ReadEnd { image, .. } => Ok(self.read_end_reply(image)),
             Call::WriteEnd { ticket, page, good } => Ok(self.write_end_reply(
                 *ticket, *page, *good,

@@ -5,9 +5,9 @@ ghost use Rattle.bp_trail.specs.declared.entries.Call.TheVariants as Call;
 ghost use Rattle.bp_trail.specs.declared.entries.Reply.TheVariants as Reply;
 ghost use Rattle.bp_trail.specs.Clock.{durable};
 ghost use Rattle.bp_session_log.specs.Books.{SameOwner, Alike};
-ghost use Rattle.bp_session_log.specs.Turns.{LookOutcome, AskFixOutcome, AskFlushOutcome};
+ghost use Rattle.bp_session_log.specs.Turns.{LookOutcome, AskFixOutcome, AskFlushOutcome, DiscardTurn};
 ghost use Rattle.bp_session_log.specs.Turns.{TickSaid, PurgeSaid, ReadSaid, ReadIntoSaid, WriteSaid};
-ghost use Rattle.bp_core.specs.Outcomes.{TickOutcome, PurgeOutcome};
+ghost use Rattle.bp_core.specs.Outcomes.{DiscardOutcome, TickOutcome, PurgeOutcome};
 ghost use Rattle.bp_core.specs.Outcomes.{ReadOutcome, ReadIntoOutcome, WriteOutcome};
 ghost use Rattle.bp_session_log.specs.Causes.{Looks, AsksFix, AsksFlush};
 
@@ -17,6 +17,7 @@ use bp_core::{Call, Pass, PoolCore, Reply, passes};
 use bp_keeper::ListKeeper;
 use bp_mark::{Mark, Reader};
 use bp_page::{Image, Lsn, PageNo, Refusal};
+use bp_trail::Discarded;
 
 impl<K: ListKeeper> Book<K> {
     /// Looks at the mark once, and marks what it sees where that is above the mark of the core: the trail and the
@@ -129,6 +130,38 @@ impl<K: ListKeeper> Book<K> {
             }
             Err(refusal) => {
                 self.tell_refused(Call::Flush(page), &refusal);
+                Err(refusal)
+            }
+        }
+    }
+
+    /// Asks the core that a page leave its frame unwritten. The trail and the list get the discard with its reply.
+    ///
+    /// `Busy` and `Pinned` are the reply of the entry; `TrailFull` adds none.
+    #[tactic(auto, using(crate::proofs::Asking::discard_refused))]
+    pub fn ask_discard(
+        &mut self,
+        core: &mut PoolCore<K>,
+        page: PageNo,
+    ) -> Result<Discarded, Refusal>
+        requires client_in { self.old.client < core.old.parameters.clients }
+        requires page_in { page < core.old.parameters.pages }
+        requires room { 0 < self.old.entries }
+        ensures durable { durable core.new.past ≡ durable core.old.past }
+        ensures parameters { core.new.parameters ≡ core.old.parameters }
+        ensures before { core.new.before ≡ core.old.before }
+        ensures owner { SameOwner self.old self.new }
+        ensures asked { DiscardOutcome core.old self.old.client page result core.new }
+        ensures outcome { DiscardTurn self.old.client page result self.old.said self.new.said }
+        ensures alike { Alike core.old self.old.said core.new self.new.said }
+    {
+        match core.discard(self.client, page) {
+            Ok(how) => {
+                self.tell(Call::Discard(page), how.reply());
+                Ok(how)
+            }
+            Err(refusal) => {
+                self.tell_refused(Call::Discard(page), &refusal);
                 Err(refusal)
             }
         }

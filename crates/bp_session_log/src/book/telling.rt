@@ -21,6 +21,7 @@ fn reply_of(refusal: &Refusal) -> Option<Reply>
         Refusal::NoVictim => Some(Reply::NoVictim),
         Refusal::NeedLog(lsn) => Some(Reply::NeedLog(*lsn)),
         Refusal::Busy => Some(Reply::Busy),
+        Refusal::Pinned => Some(Reply::Pinned),
         _ => None,
     }
 }

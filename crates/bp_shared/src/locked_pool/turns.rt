@@ -3,17 +3,17 @@
 //! takes memory for the list: what an event wants there is taken before the lock.
 ghost use Rattle.std.specs.Prelude.{◌≡◌, ◌≢◌, ◌+◌, ◌%◌, ◌^◌, ◌<◌, ◌≤◌, false, length, IfOk};
 ghost use Rattle.bp_session_log.specs.Books.{OwesRead, OwesWrite};
-ghost use Rattle.bp_session_log.specs.Turns.{FixTurn, FlushTurn, EndReadOutcome, EndWriteOutcome};
+ghost use Rattle.bp_session_log.specs.Turns.{FixTurn, FlushTurn, DiscardTurn, EndReadOutcome, EndWriteOutcome};
 ghost use Rattle.bp_session_log.specs.Turns.{TickSaid, PurgeSaid, ReadSaid, ReadIntoSaid, WriteSaid};
 ghost use Rattle.bp_session_log.specs.Causes.{EndsRead, EndsWrite};
-ghost use Rattle.bp_core.specs.Outcomes.{TickOutcome, PurgeOutcome, ReadOutcome};
+ghost use Rattle.bp_core.specs.Outcomes.{DiscardOutcome, TickOutcome, PurgeOutcome, ReadOutcome};
 ghost use Rattle.bp_core.specs.Outcomes.{pass_is_out, ReadIntoOutcome, WriteOutcome};
 ghost use Rattle.bp_shared.specs.Locked.{Enters, InStep, FixStep, FlushStep};
 
 use super::LockedPool;
 use crate::names::PoolName;
 use crate::session::{Session, Told};
-use bp_core::{Ended, Pass};
+use bp_core::{Discarded, Ended, Pass};
 use bp_keeper::ListKeeper;
 use bp_mark::Mark;
 use bp_page::{Image, Lsn, PageNo, PortFault, Refusal};
@@ -146,6 +146,32 @@ impl<N: PoolName, K: ListKeeper> LockedPool<N, K> {
             self.old session.old.said self.new session.new.said }
     {
         let answer = session.book.ask_tick(&mut self.core, n);
+        self.board
+            .write::<Book<K>, Told>(&mut session.line, &session.book);
+        answer
+    }
+
+    /// Asks that a page leave its frame unwritten.
+    pub(crate) fn discard(
+        &mut self,
+        session: &mut Session<N, K>,
+        page: PageNo,
+    ) -> Result<Discarded, Refusal>
+        requires entered { Enters N.past session.old self.old }
+        requires page_in { page < N.parameters.pages }
+        requires room { 0 < session.old.room }
+        ensures client { session.new.client ≡ session.old.client }
+        ensures before { session.new.before ≡ session.old.before }
+        ensures seen { session.new.seen ≡ session.old.seen }
+        ensures free { session.new.free ≡ session.old.free }
+        ensures ends { self.new.ends ≡ self.old.ends }
+        ensures turn { DiscardTurn session.old.client page result
+            session.old.said session.new.said }
+        ensures in_step { InStep
+            (λ core after. DiscardOutcome core session.old.client page result after)
+            self.old session.old.said self.new session.new.said }
+    {
+        let answer = session.book.ask_discard(&mut self.core, page);
         self.board
             .write::<Book<K>, Told>(&mut session.line, &session.book);
         answer

@@ -22,9 +22,11 @@ fn step_fits(step: &Step, geometry: &Geometry) -> bool
         (IsTrue result ↔ StepFits p step.now) }
 {
     match step {
-        Step::Fix(page) | Step::Unfix(page) | Step::Read(page) | Step::Flush(page) => {
-            has_page(geometry, *page)
-        }
+        Step::Fix(page)
+        | Step::Unfix(page)
+        | Step::Read(page)
+        | Step::Flush(page)
+        | Step::Discard(page) => has_page(geometry, *page),
         Step::Write {
             page,
             offset,

@@ -13,10 +13,11 @@ ghost use Rattle.bp_workers.specs.ScriptRuns.{after_lists, joined_lists, PiecesA
 use bp_ports::Port;
 
 /// In the trail of every run each reply is what the page map answers there from the calls before
-/// it, or that a read without an image found a wrong page; each page that leaves has no pins and is
-/// not unsaved, and is the eligible page that comes first, so that none is farther by its backward
-/// K-distance; no image goes out before the log is durable as far as every earlier write of its
-/// page; and over a device that gives back what was written each content is the plain map's.
+/// it, or that a read without an image found a wrong page; each page that is evicted has no pins and
+/// is not unsaved, and is the eligible page that comes first, so that none is farther by its backward
+/// K-distance; no image goes out before the log is durable as far as every earlier write of its page
+/// since its last discard; and over a device that gives back what was written each content is the
+/// plain map's.
 pub fn runs_keep_the_rules_of_the_pool()
     ensures { (c : Parameters) (trail : List AnEntry) →
         Legal c (reverse trail) → KeepsRules c trail }

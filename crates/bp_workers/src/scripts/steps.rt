@@ -92,6 +92,23 @@ fn flush<N: PoolName, P: Port, R: Wait>(
     Ok(())
 }
 
+fn discard<N: PoolName, P: Port, R: Wait>(
+    rt: &R,
+    pool: &SharedPool<N>,
+    client: &mut Client<N, P>,
+    page: PageNo,
+) -> Result<(), Refusal>
+    requires page_in { page < N.parameters.pages }
+    ensures same { Stays client.old.session client.new.session }
+    ensures port { client.new.port ≡ client.old.port }
+    ensures outcome { StepSaid client.old.session.client (Step.Discard page)
+        (outcome_of result) client.old.session.said client.new.session.said }
+    ensures held { held_passes client.new.session.said ≡ held_passes client.old.session.said }
+{
+    pool.discard(rt, &mut client.session, page)?;
+    Ok(())
+}
+
 /// Returns the pass of the page that the client took latest and still holds.
 fn latest<N: PoolName, P: Port>(
     client: &Client<N, P>,
@@ -251,6 +268,7 @@ pub(crate) fn step<N: PoolName, P: Port, R: Wait>(
             lsn,
         } => write(rt, pool, client, held, *page, *offset, bytes, *lsn),
         Step::Flush(page) => flush(rt, pool, client, *page),
+        Step::Discard(page) => discard(rt, pool, client, *page),
         Step::Tick(n) => tick(rt, pool, client, *n),
         Step::Purge => purge(rt, pool, client),
         Step::Log(lsn) => {

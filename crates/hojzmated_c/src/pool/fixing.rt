@@ -1,12 +1,12 @@
-//! The calls that fix or flush a page, and their answers as structs for C.
+//! The calls that fix, flush or discard a page, and their answers as structs for C.
 ghost use Rattle.std.specs.Prelude.{◌≡◌, length, Option};
 ghost use Rattle.bp_trail.specs.Event.{grant};
 ghost use Rattle.hojzmated_c.specs.Forms.{shown};
-ghost use Rattle.hojzmated_c.specs.Outcomes.{Fixes, Flushes, Sends, ShowsLoad, answer_of};
+ghost use Rattle.hojzmated_c.specs.Outcomes.{Fixes, Flushes, Discards, Sends, ShowsLoad, answer_of};
 
 use crate::forms::{ABSENT, CLEAN, HIT, HzFixed, LOAD, WRITE_FIRST};
 use crate::pool::Pool;
-use bp_core::{Fix, Flush, Pass, ReadTicket, WriteTicket};
+use bp_core::{Discarded, Fix, Flush, Pass, ReadTicket, WriteTicket};
 use bp_page::{PageNo, Refusal};
 
 /// Returns the answer of a fix that gives a pass.
@@ -101,5 +101,19 @@ impl Pool {
             Flush::WriteFirst(ticket) => send(ticket, image),
         };
         Ok(())
+    }
+
+    /// Has a page leave its frame unwritten. It returns `BadClient`, `OutOfPage` where the file has no such page, or
+    /// what the core refuses.
+    pub(crate) fn discard(&mut self, client: u8, page: u64) -> Result<Discarded, Refusal>
+        ensures { Discards self.old client page result self.new }
+    {
+        if client >= self.core.clients() {
+            return Err(Refusal::BadClient);
+        }
+        let Some(page) = self.core.geometry().page(page) else {
+            return Err(Refusal::OutOfPage);
+        };
+        self.core.discard(client, page)
     }
 }

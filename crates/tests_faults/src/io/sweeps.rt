@@ -23,6 +23,7 @@ fn a_read_that_fails_is_counted(rt: HostRuntime) {
         writes: 0,
         failed: 1,
         refused: 0,
+        discards: 0,
     };
     assert_eq!(rt; counts, Ok(wanted));
 }

@@ -12,6 +12,7 @@ enum Answer {
     Read(PageNo),
     Written(PageNo),
     Flushed(PageNo),
+    Discarded(PageNo),
     Ticked,
     Purged,
 }
@@ -24,6 +25,7 @@ fn answer_to(step: &Step) -> Option<Answer> {
         Step::Read(page) => Some(Answer::Read(*page)),
         Step::Write { page, .. } => Some(Answer::Written(*page)),
         Step::Flush(page) => Some(Answer::Flushed(*page)),
+        Step::Discard(page) => Some(Answer::Discarded(*page)),
         Step::Tick(_) => Some(Answer::Ticked),
         Step::Purge => Some(Answer::Purged),
         Step::Log(_) => None,
@@ -54,6 +56,9 @@ fn answer_in(trail: &[Entry], entry: &Entry) -> Option<Answer> {
         }
         Call::WriteEnd { ticket, page, good } if *good && is_of_a_flush(trail, *ticket) => {
             Some(Answer::Flushed(*page))
+        }
+        Call::Discard(page) if matches!(entry.reply, Reply::Discarded | Reply::Absent) => {
+            Some(Answer::Discarded(*page))
         }
         Call::Unfix { page, .. } => Some(Answer::Unfixed(*page)),
         Call::Read { page, .. } => Some(Answer::Read(*page)),

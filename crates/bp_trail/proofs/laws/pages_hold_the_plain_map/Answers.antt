@@ -1,3 +1,4 @@
+use Rattle.bp_trail.specs.Device.{all_known}
 use Rattle.bp_trail.proofs.Content.{held-plain, honest-of}
 use Rattle.bp_trail.proofs.LegalLaws.{each-answers, each-sends}
 use Rattle.bp_trail.proofs.laws.pages_hold_the_plain_map.Goals as goal
@@ -12,4 +13,4 @@ pub returns-clause-sent : goal.returns-clause-sent
 returns-clause-sent c = each-sends
 
 pub returns-clause-each_page : goal.returns-clause-each_page
-returns-clause-each_page c = honest-of
+returns-clause-each_page c = λ m p past honest. honest-of (all_known m) p past honest

@@ -1,4 +1,4 @@
-use Rattle.bp_trail.proofs.Redo.{first-unsaved, none-unsaved, redo-covers, redo-rises}
+use Rattle.bp_trail.proofs.Redo.{first-unsaved, none-unsaved, redo-covers, redo-rises, redo-rises-dropped}
 use Rattle.bp_trail.proofs.laws.redo_begins_at_the_least_unsaved_lsn.Goals as goal
 
 pub returns-clause-unsaved : goal.returns-clause-unsaved
@@ -12,3 +12,6 @@ returns-clause-covers c = redo-covers
 
 pub returns-clause-rises : goal.returns-clause-rises
 returns-clause-rises c = redo-rises
+
+pub returns-clause-rises_by_discard : goal.returns-clause-rises_by_discard
+returns-clause-rises_by_discard c = redo-rises-dropped

@@ -1,5 +1,5 @@
 use Rattle.bp_trail.proofs.Crashes.{within-is}
-use Rattle.bp_trail.proofs.Redoing.{recovers, recovers-plain, recovers-whole, redo-pieces}
+use Rattle.bp_trail.proofs.Redoing.{plain-is, recovers, recovers-plain, recovers-whole, redo-pieces}
 use Rattle.bp_trail.proofs.recovery.redo_recovers_each_page.Goals as goal
 
 pub returns-clause-recovered : goal.returns-clause-recovered
@@ -16,3 +16,6 @@ returns-clause-within c = within-is
 
 pub returns-clause-in_pieces : goal.returns-clause-in_pieces
 returns-clause-in_pieces c = redo-pieces
+
+pub returns-clause-plain_map : goal.returns-clause-plain_map
+returns-clause-plain_map c = plain-is

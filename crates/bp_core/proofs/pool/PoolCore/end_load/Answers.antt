@@ -44,7 +44,7 @@ invariant_of-self-2 g c =
     let same = ap (λ (x : State). x.frames) c.give_pass-pass.ensures.after in
     let is = filled-image t.page c.unwrap-block.result c.args.image c.self.inside.state.frames.frames c.install-before.new.self c.give_pass-pass.new.self.frames f.frames absent same c.frame.result.now c.frame.ensures.here (c.frame.ensures.page ∙ f.page) in
     rw (c.record_read_end.ensures, is, c.give_pass-pass.ensures.after, c.give_pass-pass.ensures.pass)
-    (keeps-end_load _ _ _ c.self.invariant _ c.self.view_is t.client t.page t.serial (read-seen _ _ _ c.self.invariant _ c.self.view_is (grant c.args.ticket.client c.args.ticket.page c.args.ticket.serial) true (sym c.take_back.ensures.was ∙ c.if-not-take_back.false)) c.take_back.new.self (c.take_back.ensures.out c.if-not-take_back.false) c.take_back.ensures.more c.unwrap-block.result (sym c.place.ensures.place ∙ c.unwrap-block.ensures) c.args.image c.requires c.install-before.new.self f.frames f.empty_frames f.size f.capacity f.pages f.candidates c.fault_at.new.self h.settings h.stamps h.others h.held h.places)
+    (keeps-end_load _ _ _ c.self.invariant _ c.self.view_is t.client t.page t.serial (read-seen _ _ _ c.self.invariant _ c.self.view_is (grant c.args.ticket.client c.args.ticket.page c.args.ticket.serial) true (sym c.take_back.ensures.was ∙ c.if-not-take_back.false)) c.take_back.new.self (c.take_back.ensures.out c.if-not-take_back.false) c.take_back.ensures.more c.unwrap-block.result (sym c.place.ensures.place ∙ c.unwrap-block.ensures) c.args.image c.requires c.install-before.new.self f.frames f.empty_frames f.size f.capacity f.pages f.candidates c.fault_at.new.self h.settings h.stamps h.others h.held h.latest h.places)
 
 pub returns : goal.returns
 returns g c =

@@ -53,7 +53,7 @@ invariant_of-self-2 g c =
     let at = c.in-Some.ensures.found in
     let h = c.hit_at.ensures in
     let w = rw at.1 at c.withdraw.ensures in
-    rw (c.record.ensures, c.give_pass-pass.ensures.after, c.give_pass-pass.ensures.pass, c.pin.ensures, at.1, w.same) (keeps-hit _ _ _ c.self.invariant _ c.self.view_is c.args.client c.args.page c.requires.client_in c.requires.page_in here room c.reserve.new.self c.reserve.ensures.out (omega (arith, c.in_ok-reserve.ensures.room, c.len-pending.ensures)) c.hit_at.new.self h.settings h.stamps h.others h.held h.places c.withdraw.new.self.candidates w.limits w.pages w.others w.left)
+    rw (c.record.ensures, c.give_pass-pass.ensures.after, c.give_pass-pass.ensures.pass, c.pin.ensures, at.1, w.same) (keeps-hit _ _ _ c.self.invariant _ c.self.view_is c.args.client c.args.page c.requires.client_in c.requires.page_in here room c.reserve.new.self c.reserve.ensures.out (omega (arith, c.in_ok-reserve.ensures.room, c.len-pending.ensures)) c.hit_at.new.self h.settings h.stamps h.others h.held h.latest h.places c.withdraw.new.self.candidates w.limits w.pages w.others w.left)
 
 pub returns-in_err-reserve-clause-memory : goal.returns-in_err-reserve-clause-memory
 returns-in_err-reserve-clause-memory g c = λ refused. here-takes _ _ _ c.self.invariant _ c.self.view_is c.args.page (ap (λ v. resident v.past c.args.page) (sym c.self.view_is) ∙ sym (resident_seen _ _ _ c.self.invariant.agrees c.args.page) ∙ sym c.in-Some.ensures.here)

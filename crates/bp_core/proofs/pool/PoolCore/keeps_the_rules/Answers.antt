@@ -1,5 +1,4 @@
-use Rattle.std.proofs.Common.{refl, subst, sym}
-use Rattle.std.specs.Prelude.{IsSome}
+use Rattle.std.proofs.Common.{subst}
 use Rattle.bp_trail.specs.Safety.{Safe}
 use Rattle.bp_trail.specs.Claims.{HeldIsPlain, ReadsAreKnown}
 use Rattle.bp_trail.proofs.Eviction.{safe}
@@ -13,4 +12,4 @@ pub returns-clause-plain : goal.returns-clause-plain
 returns-clause-plain g c = subst (λ v. HeldIsPlain v.past) c.self.view_is (λ m p honest here. held-plain _ m _ p c.self.invariant.agrees.legal honest here)
 
 pub returns-clause-known : goal.returns-clause-known
-returns-clause-known g c = subst (λ v. ReadsAreKnown v.past) c.self.view_is (λ m who p t out. subst IsSome (sym (read_end_known _ m _ who p t c.self.invariant.agrees.legal out)) refl)
+returns-clause-known g c = subst (λ v. ReadsAreKnown v.past) c.self.view_is (λ m who p t out d. read_end_known _ m _ who p t c.self.invariant.agrees.legal out d)

@@ -13,7 +13,7 @@ pub invariant_of-self : goal.invariant_of-self
 invariant_of-self g c =
     let room : HasRoomFor 1 c.args.self.now = omega (arith, c.free.ensures) in
     let e = c.purge-count.ensures in
-    rw c.record.ensures (keeps-purge _ _ _ c.self.invariant _ c.self.view_is c.args.client c.purge-count.result c.purge-count.new.self c.requires.client_in room e.counted e.settings e.forgotten e.kept e.held e.places)
+    rw c.record.ensures (keeps-purge _ _ _ c.self.invariant _ c.self.view_is c.args.client c.purge-count.result c.purge-count.new.self c.requires.client_in room e.counted e.settings e.forgotten e.kept e.held e.no_later e.places)
 
 pub returns : goal.returns
 returns g c =

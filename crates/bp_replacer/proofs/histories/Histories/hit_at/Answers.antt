@@ -1,8 +1,9 @@
-use Rattle.std.proofs.Common.{◌≡◌, ◌+◌, ◌-◌, ◌≤◌, refl, sym, ap, ◌∙◌, get_or, arith}
+use Rattle.std.proofs.Common.{◌≡◌, ◌<◌, subst, ◌+◌, ◌-◌, ◌≤◌, refl, sym, ap, ◌∙◌, get_or, arith}
 use Rattle.bp_replacer.specs.declared.histories.Block.{Block}
 use Rattle.bp_references.specs.Shift.{IsBounded}
 use Rattle.bp_replacer.proofs.KeptLaws.{bounded_shift, bounded_later}
-use Rattle.bp_replacer.specs.Histories.{Blocks}
+use Rattle.bp_replacer.specs.Histories.{Blocks, time_of}
+use Rattle.bp_replacer.proofs.HistoryLaws.{stamped_time, stamped}
 use Rattle.bp_replacer.proofs.BlockSteps.{same_places, lends, lends_block, lends_sound, is, others, keeps, keeps_queue, after_late_hit, after_soon_hit}
 use Rattle.bp_replacer.proofs.histories.Histories.hit_at.Goals as goal
 use Rattle.bp_replacer.proofs.histories.Histories.hit_at.Goals.{then-t-kept, else-t-kept}
@@ -65,12 +66,18 @@ returns c =
       | then-t-kept w ↦ ap (λ (b : Block). b.held) w.kept-is
       | else-t-kept w ↦ ap (λ (b : Block). b.held) w.kept-is
     ] in
+    let left : Block = record { held = c.if-t-kept.kept.held; waits = c.if-t-kept.kept.waits; last = c.args.t; stamps = c.if-t-kept.kept.stamps } in
+    let known : time_of left ≡ c.args.t = elim c.if-t-kept.branch [
+      | then-t-kept w ↦ stamped_time left c.args.t (ap (λ (b : Block). get_or b.stamps 0 0) w.kept-is ∙ w.shift.ensures.newest) c.requires.now.positive
+      | else-t-kept w ↦ stamped_time left (get_or c.unwrap-kept.result.now.stamps 0 0) (ap (λ (b : Block). get_or b.stamps 0 0) w.kept-is) (stamped c.unwrap-kept.result.now (subst (λ (b : Block). 0 < time_of b) was c.requires.known))
+    ] in
     record {
       stamps = λ refs timed has. elim c.if-t-kept.branch [
-        | then-t-kept w ↦ after_late_hit c.self.inside _ c.self.view_is c.self.invariant.0 _ _ _ c.requires.place c.slot.ensures _ c.get_mut.ensures.value _ c.unwrap-kept.ensures _ _ (omega (arith, c.self.inside.settings.in_limits)) refl refs timed has c.requires.known (omega (arith, w.if-t-kept)) (rw (ap (λ (b : Block). b.stamps) w.kept-is) w.shift.ensures)
-        | else-t-kept w ↦ after_soon_hit c.self.inside _ c.self.view_is c.self.invariant.0 _ _ _ c.requires.place c.slot.ensures _ c.get_mut.ensures.value _ c.unwrap-kept.ensures _ _ (omega (arith, c.self.inside.settings.in_limits)) refl refs timed has c.requires.known (omega (arith, w.if-t-kept)) (ap (λ (b : Block). b.stamps) w.kept-is)
+        | then-t-kept w ↦ after_late_hit c.self.inside _ c.self.view_is c.self.invariant.0 _ _ _ c.requires.place c.slot.ensures _ c.get_mut.ensures.value _ c.unwrap-kept.ensures _ _ (omega (arith, c.self.inside.settings.in_limits)) c.requires.now.positive refl refs timed has c.requires.known (omega (arith, w.if-t-kept)) (rw (ap (λ (b : Block). b.stamps) w.kept-is) w.shift.ensures)
+        | else-t-kept w ↦ after_soon_hit c.self.inside _ c.self.view_is c.self.invariant.0 _ _ _ c.requires.place c.slot.ensures _ c.get_mut.ensures.value _ c.unwrap-kept.ensures _ _ (omega (arith, c.self.inside.settings.in_limits)) c.requires.now.positive refl refs timed has c.requires.known (omega (arith, w.if-t-kept)) (ap (λ (b : Block). b.stamps) w.kept-is)
       ];
-      last = ap (λ (b : Block). b.last) (is c.self.inside _ c.self.view_is c.self.invariant.0 _ _ _ c.requires.place c.slot.ensures _ c.get_mut.ensures.value _ c.unwrap-kept.ensures _);
+      last = ap time_of (is c.self.inside _ c.self.view_is c.self.invariant.0 _ _ _ c.requires.place c.slot.ensures _ c.get_mut.ensures.value _ c.unwrap-kept.ensures _) ∙ known;
+      latest = ap (λ (b : Block). b.last) (is c.self.inside _ c.self.view_is c.self.invariant.0 _ _ _ c.requires.place c.slot.ensures _ c.get_mut.ensures.value _ c.unwrap-kept.ensures _);
       held = ap (λ (b : Block). b.held) (is c.self.inside _ c.self.view_is c.self.invariant.0 _ _ _ c.requires.place c.slot.ensures _ c.get_mut.ensures.value _ c.unwrap-kept.ensures _) ∙ same ∙ sym (ap (λ (b : Block). b.held) was) ∙ c.requires.held;
       others = others c.self.inside _ c.self.view_is c.self.invariant.0 _ _ _ c.requires.place c.slot.ensures _ c.get_mut.ensures.value _ c.unwrap-kept.ensures _;
       settings = record { k = ap (λ (h : Blocks). h.k) c.self.view_is; correlated = ap (λ (h : Blocks). h.correlated) c.self.view_is; retained = ap (λ (h : Blocks). h.retained) c.self.view_is };

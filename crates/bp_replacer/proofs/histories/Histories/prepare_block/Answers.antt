@@ -50,7 +50,7 @@ there c =
     ap (λ n. number c.insert.new.self.entries n) (sym c.number.ensures) ∙ c.in-Ok.ensures.updates.1 ∙ ap Some (sym key)
 
 blank : (k : ℕ) → IsBlank k record { held = true; waits = false; last = 0; stamps = replicate 16 0 }
-blank k = record { last = refl; stamps = λ n lt. at n 16 }
+blank k = record { time = refl; stamps = λ n lt. at n 16 }
   where
     at : (n count : ℕ) → ◌≡◌ {A = ℕ} (get_or (replicate count 0) n 0) 0
     at n zero = refl
@@ -98,7 +98,8 @@ returns-clause-stamps c =
     let before : number c.self.inside.places.entries c.args.page ≡ None = subst (λ (h : Blocks). place_of h c.args.page ≡ None) (sym c.self.view_is) (sym c.place.ensures.place ∙ c.in_default.is) in
     let was : block_of c.args.self.now c.args.page ≡ no_block = subst (λ (h : Blocks). block_of h c.args.page ≡ no_block) c.self.view_is (gone c.self.inside c.args.page before) in
     let k = ap (λ (h : Blocks). h.k) c.self.view_is in
-    blank_alike c.args.self.now (the_view (now c)) c.args.page k (rw was (no_block_blank _)) (rw (← k) (is_blank c))
+    let new : block_of (the_view (now c)) c.args.page ≡ record { held = true; waits = false; last = 0; stamps = replicate 16 0 } = came (now c) c.args.page c.insert_reserved.result _ (there c) c.insert_reserved.ensures.updates.changed in
+    blank_alike c.args.self.now (the_view (now c)) c.args.page k (rw new (omega arith)) (rw was (no_block_blank _)) (rw (← k) (is_blank c))
 
 pub returns-clause-others : goal.returns-clause-others
 returns-clause-others c = others_same c.self.inside (now c) _ c.self.view_is refl _ _ (changes c)

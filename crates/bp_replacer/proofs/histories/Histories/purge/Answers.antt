@@ -6,7 +6,7 @@ use Rattle.bp_replacer.specs.contracts.histories.Histories.{the_view}
 use Rattle.bp_replacer.specs.Histories.{Blocks, KeepsPlaces, forgets}
 use Rattle.bp_replacer.proofs.KeptLaws.{number, kept_after, kept_without, is_lent, was_sound}
 use Rattle.bp_replacer.proofs.QueueLaws.{takes, queued_unmarked, room_again, queued_again, queued_forgotten, queued_nobody}
-use Rattle.bp_replacer.proofs.PurgeWalk.{IsPurged, purged_same, purged_less, written_stays, queue_stays, is_outdated_here, removed_stays, removed_goes, all_done, pops_less, pushes_none, ends_gone, ends_forgotten, ends_kept, ends_held, ends_counted, ends_placed}
+use Rattle.bp_replacer.proofs.PurgeWalk.{IsPurged, purged_same, purged_dropped, written_stays, queue_stays, removed_stays, all_done, pops_less, pushes_none, ends_gone, ends_forgotten, ends_kept, ends_held, ends_no_later, ends_counted, ends_placed}
 use Rattle.bp_replacer.proofs.histories.Histories.purge.Goals as goal
 
 -- ---- a page without a block
@@ -19,7 +19,7 @@ loop-page-preserved-in_default-copied c = record {
   settings = c.loop-page.invariant.settings;
   kept = c.loop-page.invariant.kept;
   queued = queued_nobody _ _ _ _ _ c.loop-page.invariant.queued (sym c.get.ensures.value ∙ sym c.copied.ensures ∙ c.in_default-copied.is) c.in-Some.ensures.taken c.pop_below.ensures.room;
-  purged = purged_same _ _ _ _ _ _ (ap (λ (s : Settings). s.retained) c.loop-page.invariant.settings) refl c.loop-page.invariant.purged (queue_stays c.loop-page.self-inside c.pop_below.new.self);
+  purged = purged_same _ _ _ _ _ _ _ (ap (λ (s : Settings). s.retained) c.loop-page.invariant.settings) refl (ap (λ (s : Settings). s.k) c.loop-page.invariant.settings) refl c.loop-page.invariant.purged (queue_stays c.loop-page.self-inside c.pop_below.new.self);
 }
 
 pub unwrap-kept-requires : goal.unwrap-kept-requires
@@ -37,7 +37,7 @@ loop-page-preserved-then-kept c =
       settings = c.loop-page.invariant.settings;
       kept = kept_after _ _ _ c.loop-page.invariant.kept _ _ (sym c.get.ensures.value ∙ sym c.copied.ensures ∙ c.in-Some-copied.is ∙ ap Some (sym c.slot-slot.ensures)) _ (sym c.get_mut.ensures.value ∙ ap option_copied_mut c.unwrap-kept.ensures) _ record { bounded = sound.bounded; free_waits = λ free. absurd (false≢true (sym free ∙ c.if-kept.true)); waits_known = λ waits. absurd (false≢true waits) };
       queued = queued_unmarked _ _ _ c.loop-page.invariant.kept _ c.loop-page.invariant.queued _ _ (sym c.get.ensures.value ∙ sym c.copied.ensures ∙ c.in-Some-copied.is ∙ ap Some (sym c.slot-slot.ensures)) _ _ (sym c.get_mut.ensures.value ∙ ap option_copied_mut c.unwrap-kept.ensures) _ _ refl c.in-Some.ensures.taken c.pop_below.ensures.room refl;
-      purged = purged_same _ _ _ _ _ _ (ap (λ (s : Settings). s.retained) c.loop-page.invariant.settings) refl c.loop-page.invariant.purged (written_stays c.loop-page.self-inside c.loop-page.invariant.kept _ _ (sym c.get.ensures.value ∙ sym c.copied.ensures ∙ c.in-Some-copied.is ∙ ap Some (sym c.slot-slot.ensures)) _ (sym c.get_mut.ensures.value ∙ ap option_copied_mut c.unwrap-kept.ensures) _ c.pop_below.new.self refl refl refl);
+      purged = purged_same _ _ _ _ _ _ _ (ap (λ (s : Settings). s.retained) c.loop-page.invariant.settings) refl (ap (λ (s : Settings). s.k) c.loop-page.invariant.settings) refl c.loop-page.invariant.purged (written_stays c.loop-page.self-inside c.loop-page.invariant.kept _ _ (sym c.get.ensures.value ∙ sym c.copied.ensures ∙ c.in-Some-copied.is ∙ ap Some (sym c.slot-slot.ensures)) _ (sym c.get_mut.ensures.value ∙ ap option_copied_mut c.unwrap-kept.ensures) _ c.pop_below.new.self refl refl refl);
     }
 
 -- ---- a page that was referenced since
@@ -58,7 +58,7 @@ loop-page-preserved-then-kept-bound c =
       settings = c.loop-page.invariant.settings;
       kept = kept_after _ _ _ c.loop-page.invariant.kept _ _ (sym c.get.ensures.value ∙ sym c.copied.ensures ∙ c.in-Some-copied.is ∙ ap Some (sym c.slot-slot.ensures)) _ (sym c.get_mut.ensures.value ∙ ap option_copied_mut c.unwrap-kept.ensures) _ sound;
       queued = queued_again _ _ _ c.loop-page.invariant.kept _ c.loop-page.invariant.queued _ _ (sym c.get.ensures.value ∙ sym c.copied.ensures ∙ c.in-Some-copied.is ∙ ap Some (sym c.slot-slot.ensures)) _ _ (sym c.get_mut.ensures.value ∙ ap option_copied_mut c.unwrap-kept.ensures) _ _ refl c.in-Some.ensures.taken c.pop_below.ensures.room _ refl c.push.ensures.pages c.push.ensures.room;
-      purged = purged_same _ _ _ _ _ _ (ap (λ (s : Settings). s.retained) c.loop-page.invariant.settings) refl c.loop-page.invariant.purged (written_stays c.loop-page.self-inside c.loop-page.invariant.kept _ _ (sym c.get.ensures.value ∙ sym c.copied.ensures ∙ c.in-Some-copied.is ∙ ap Some (sym c.slot-slot.ensures)) _ (sym c.get_mut.ensures.value ∙ ap option_copied_mut c.unwrap-kept.ensures) _ c.push.new.self refl refl refl);
+      purged = purged_same _ _ _ _ _ _ _ (ap (λ (s : Settings). s.retained) c.loop-page.invariant.settings) refl (ap (λ (s : Settings). s.k) c.loop-page.invariant.settings) refl c.loop-page.invariant.purged (written_stays c.loop-page.self-inside c.loop-page.invariant.kept _ _ (sym c.get.ensures.value ∙ sym c.copied.ensures ∙ c.in-Some-copied.is ∙ ap Some (sym c.slot-slot.ensures)) _ (sym c.get_mut.ensures.value ∙ ap option_copied_mut c.unwrap-kept.ensures) _ c.push.new.self refl refl refl);
     }
 
 -- ---- a page that is forgotten
@@ -79,10 +79,10 @@ loop-page-preserved c =
       settings = c.loop-page.invariant.settings;
       kept = kept_without _ _ _ _ _ _ after _ c.loop-page.invariant.kept none;
       queued = rw c.remove-else-kept-bound.ensures.slots (queued_forgotten _ _ _ c.loop-page.invariant.kept _ c.loop-page.invariant.queued _ _ (sym c.get.ensures.value ∙ sym c.copied.ensures ∙ c.in-Some-copied.is ∙ ap Some (sym c.slot-slot.ensures)) _ (sym c.get_mut.ensures.value ∙ ap option_copied_mut c.unwrap-kept.ensures) _ others none _ _ refl c.in-Some.ensures.taken c.pop_below.ensures.room);
-      purged = purged_less _ (the_view c.loop-page.self-inside) _ _ _ _ (ap (λ (s : Settings). s.retained) c.loop-page.invariant.settings) refl (rw less c.loop-page.invariant.purged) c.in-Some.page
-          (is_outdated_here c.loop-page.self-inside c.loop-page.invariant.kept _ _ (sym c.get.ensures.value ∙ sym c.copied.ensures ∙ c.in-Some-copied.is ∙ ap Some (sym c.slot-slot.ensures)) _ (sym c.get_mut.ensures.value ∙ ap option_copied_mut c.unwrap-kept.ensures) c.args.t c.if-kept.false (rw (← bound_is) c.if-kept-bound.false))
-          (removed_goes record { settings = c.loop-page.self-inside.settings; places = c.remove.new.self; blocks = c.remove-else-kept-bound.new.self; waiting = c.pop_below.new.self } c.in-Some.page none)
-          (removed_stays c.loop-page.self-inside record { settings = c.loop-page.self-inside.settings; places = c.remove.new.self; blocks = c.remove-else-kept-bound.new.self; waiting = c.pop_below.new.self } _ _ after);
+      purged =
+          purged_dropped _ c.loop-page.self-inside record { settings = c.loop-page.self-inside.settings; places = c.remove.new.self; blocks = c.remove-else-kept-bound.new.self; waiting = c.pop_below.new.self } _ _ _ _ (ap (λ (s : Settings). s.retained) c.loop-page.invariant.settings) refl (ap (λ (s : Settings). s.k) c.loop-page.invariant.settings) refl c.loop-page.invariant.kept _ _
+          (sym c.get.ensures.value ∙ sym c.copied.ensures ∙ c.in-Some-copied.is ∙ ap Some (sym c.slot-slot.ensures)) _ (sym c.get_mut.ensures.value ∙ ap option_copied_mut c.unwrap-kept.ensures) c.if-kept.false (rw (← bound_is) c.if-kept-bound.false)
+          none (removed_stays c.loop-page.self-inside record { settings = c.loop-page.self-inside.settings; places = c.remove.new.self; blocks = c.remove-else-kept-bound.new.self; waiting = c.pop_below.new.self } _ _ after) c.one_if-forgotten_before.result c.one_if-forgotten_before.ensures (rw less c.loop-page.invariant.purged);
     }
 
 -- ---- at the end
@@ -102,24 +102,27 @@ k c = ap (λ (s : Settings). s.k) c.loop-page.invariant.settings ∙ ap (λ (h :
 retained : (c : goal.After-len) → (the_view c.loop-page.self-inside).retained ≡ c.args.self.now.retained
 retained c = ap (λ (s : Settings). s.retained) c.loop-page.invariant.settings ∙ ap (λ (h : Blocks). h.retained) c.self.view_is
 
-purged : (c : goal.After-len) → IsPurged c.args.self.now (the_view c.loop-page.self-inside) c.args.t c.len-before.result (length c.loop-page.self-inside.places.entries)
-purged c = subst (λ h. IsPurged h (the_view c.loop-page.self-inside) c.args.t c.len-before.result (length c.loop-page.self-inside.places.entries)) c.self.view_is c.loop-page.invariant.purged
+purged : (c : goal.After-len) → IsPurged c.args.self.now (the_view c.loop-page.self-inside) c.args.t c.len-before.result (length c.loop-page.self-inside.places.entries) c.loop-page.forgotten_before
+purged c = subst (λ h. IsPurged h (the_view c.loop-page.self-inside) c.args.t c.len-before.result (length c.loop-page.self-inside.places.entries) c.loop-page.forgotten_before) c.self.view_is c.loop-page.invariant.purged
 
 pub returns-clause-forgotten : goal.returns-clause-forgotten
-returns-clause-forgotten c = ends_forgotten _ _ _ _ _ (k c) (retained c) (purged c) (done c)
+returns-clause-forgotten c = ends_forgotten _ _ _ _ _ _ (k c) (retained c) (purged c) (done c)
 
 pub returns-clause-vanishes : goal.returns-clause-vanishes
-returns-clause-vanishes c = ends_gone _ _ _ _ _ (k c) (retained c) (purged c) (done c)
+returns-clause-vanishes c = ends_gone _ _ _ _ _ _ (k c) (retained c) (purged c) (done c)
 
 pub returns-clause-kept : goal.returns-clause-kept
-returns-clause-kept c = ends_kept _ _ _ _ _ (k c) (retained c) (purged c) (done c)
+returns-clause-kept c = ends_kept _ _ _ _ _ _ (k c) (retained c) (purged c) (done c)
 
 pub returns-clause-held : goal.returns-clause-held
-returns-clause-held c = ends_held _ _ _ _ _ (k c) (retained c) (purged c) (done c)
+returns-clause-held c = ends_held _ _ _ _ _ _ (k c) (retained c) (purged c) (done c)
+
+pub returns-clause-no_later : goal.returns-clause-no_later
+returns-clause-no_later c = ends_no_later _ _ _ _ _ _ (k c) (retained c) (purged c) (done c)
 
 pub returns-clause-counted : goal.returns-clause-counted
-returns-clause-counted c = λ bound past. omega (arith, ends_counted _ _ _ _ _ (k c) (retained c) (purged c) (done c) bound past, c.len.ensures.len)
+returns-clause-counted c = λ bound past. omega (arith, ends_counted _ _ _ _ _ _ (k c) (retained c) (purged c) (done c) bound past, c.len.ensures.len)
 
 pub returns-clause-places : goal.returns-clause-places
 unfolding KeepsPlaces
-returns-clause-places c = λ page was held. ends_placed _ _ _ _ _ (k c) (retained c) (purged c) (done c) page held
+returns-clause-places c = λ page was held. ends_placed _ _ _ _ _ _ (k c) (retained c) (purged c) (done c) page held

@@ -10,7 +10,7 @@ invariant-loop-page l = record {
   settings : l.self-inside.settings ≡ l.initial.self-inside.settings;
   kept : IsKept l.self-inside.settings.k l.self-inside.blocks.slots l.self-inside.places.entries;
   queued : IsQueued l.self-inside.blocks.slots l.self-inside.places.entries l.self-inside.waiting;
-  purged : IsPurged (the_view l.initial.self-inside) (the_view l.self-inside) l.t l.before (length l.self-inside.places.entries);
+  purged : IsPurged (the_view l.initial.self-inside) (the_view l.self-inside) l.t l.before (length l.self-inside.places.entries) l.forgotten_before;
 }
 
 abbrev pub decreases-loop-page : goal.decreases-loop-page

@@ -1,7 +1,7 @@
 use Rattle.std.proofs.Common.{◌≡◌, ◌⊎◌, ℕ, zero, suc, ◌-◌, ◌<◌, ◌≤◌, get_or, refl, sym, ap, ◌∙◌, inl, inr, arith}
 use Rattle.std.proofs.lemmas.Bool.{lt-ltb, le-ltb}
 use Rattle.bp_replacer.specs.declared.histories.Block.{Block}
-use Rattle.bp_replacer.specs.Histories.{Blocks, block_of, stamp_of}
+use Rattle.bp_replacer.specs.Histories.{Blocks, block_of, time_of, stamp_of}
 use Rattle.bp_replacer.proofs.BlockSteps.{shows, shows_block}
 use Rattle.bp_replacer.proofs.histories.Histories.rank_at.Goals.{then-i-ge1+then-i-self, else-i-ge1, else-i-ge1-via-then-i-ge1+else-i-self, else-i-ge1-via-else-i-ge1}
 use Rattle.bp_replacer.proofs.histories.Histories.rank_at.Goals as goal
@@ -33,4 +33,4 @@ returns-clause-stamp c =
 pub returns-clause-last : goal.returns-clause-last
 returns-clause-last c =
     let was = shows_block c.self.inside _ c.self.view_is c.self.invariant.0 _ _ _ c.requires.place c.slot.ensures _ c.get.ensures _ c.unwrap-kept.ensures in
-    sym (ap (λ (b : Block). b.last) was)
+    c.time.ensures ∙ sym (ap time_of was)

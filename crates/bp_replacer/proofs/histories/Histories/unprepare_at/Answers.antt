@@ -92,6 +92,7 @@ returns-then-kept-eq0-clause-stamps c =
     let was = lends_block c.self.inside _ c.self.view_is c.self.invariant.0 _ _ _ c.requires.place c.slot-slot.ensures _ c.get_mut.ensures.value _ c.unwrap-kept.ensures in
     let sound = lends_sound c.self.inside _ c.self.view_is c.self.invariant.0 _ _ _ c.requires.place c.slot-slot.ensures _ c.get_mut.ensures.value _ c.unwrap-kept.ensures in
     blank_alike c.args.self.now (the_view (now c)) c.args.page (ap (λ (h : Blocks). h.k) c.self.view_is)
+    (rw (gone (now c) c.args.page (none c)) (omega arith))
     (rw (was, ← c.self.view_is) (sound_blank _ _ sound c.if-kept-eq0.true))
     (rw (gone (now c) c.args.page (none c)) (no_block_blank _))
 

@@ -22,6 +22,11 @@ returns-in-Flush g c =
     let said = c.flush.ensures in
     rw c.in-Flush.is (record { same = said.same; work = said.work; outcome = said.outcome; held = c.requires.held ∙ sym said.held })
 
+pub returns-in-Discard : goal.returns-in-Discard
+returns-in-Discard g c =
+    let said = c.discard.ensures in
+    rw c.in-Discard.is (record { same = said.same; work = said.port; outcome = said.outcome; held = c.requires.held ∙ sym said.held })
+
 pub returns-in-Tick : goal.returns-in-Tick
 returns-in-Tick g c =
     let said = c.tick.ensures in

@@ -1,0 +1,37 @@
+-- Where memory is refused, nothing is asked.
+use Rattle.std.proofs.Common.{◌≡◌, refl, ◌∙◌, ap, Err}
+use Rattle.std.proofs.lemmas.Result.{err_from_is_err_and}
+use Rattle.bp_page.specs.declared.refusals.Refusal.TheVariants as refusal
+use Rattle.bp_shared.specs.Sessions.{SessionValue}
+use Rattle.bp_shared.proofs.Freeing.{freed, unasked}
+use Rattle.bp_shared.proofs.Discarding.{discard_no_memory}
+use Rattle.bp_shared.proofs.pool.SharedPool.ask_discard.Goals as goal
+
+pub returns-in_err-reserve_for_event : goal.returns-in_err-reserve_for_event
+returns-in_err-reserve_for_event g c =
+    let same = c.in_err-reserve_for_event.ensures.same in
+    let why = c.in_err-reserve_for_event.field-0.0 in
+    let memory : why ≡ refusal.OutOfMemory = (let is = c.in_err-reserve_for_event.ensures.refused in cc) in
+    let is = err_from_is_err_and c.from_residual.result c.from_residual.ensures.1 in
+    rw (← c.session.view_is) (record {
+      client = same.client;
+      before = same.before;
+      seen = refl;
+      free = unasked _ _ (is.1 ∙ ap Err (is.2 ∙ memory));
+      turn = discard_no_memory _ _ c.from_residual.result why _ _ c.from_residual.ensures.1 memory same.said;
+    })
+
+pub returns : goal.returns
+returns g c =
+    let same = c.in_ok-reserve_for_event.ensures.same in
+    let entered = c.lock_and_drain-state.ensures in
+    let client = ap (λ (s : SessionValue). s.client) entered.session ∙ same.client in
+    let said = ap (λ (s : SessionValue). s.said) entered.session ∙ same.said in
+    let done = c.discard-answer.ensures in
+    rw (← c.session.view_is) (record {
+      client = done.client ∙ client;
+      before = done.before ∙ ap (λ (s : SessionValue). s.before) entered.session ∙ same.before;
+      seen = done.seen ∙ ap (λ (s : SessionValue). s.seen) entered.session;
+      free = freed _ _ _ (entered.free, done.free ∙ ap (λ (s : SessionValue). s.free) entered.session);
+      turn = rw (client, said) at done.turn;
+    })

@@ -1,0 +1,71 @@
+//! Discards of shared pages. They ask nothing of the device.
+
+use super::SharedPool;
+use crate::names::PoolName;
+use crate::session::Session;
+use bp_core::Discarded;
+use bp_keeper::ListKeeper;
+use bp_page::{PageNo, Refusal};
+use std::sync::Wait;
+
+impl<N: PoolName, K: ListKeeper> SharedPool<N, K> {
+    ghost use Rattle.std.specs.Prelude.{◌≡◌, ◌<◌};
+    ghost use Rattle.bp_session_log.specs.Turns.{DiscardTurn};
+    ghost use Rattle.bp_shared.specs.Sessions.{DiscardSaid, FreesRing};
+
+    /// Takes the memory for one more event, and asks that a page leave its frame, in one critical section. `Busy` and
+    /// `OutOfMemory` as from `ask_fix`.
+    fn ask_discard<R: Wait>(
+        &self,
+        rt: &R,
+        session: &mut Session<N, K>,
+        page: PageNo,
+    ) -> Result<Discarded, Refusal>
+        requires page_in { page < N.parameters.pages }
+        ensures client { session.new.client ≡ session.old.client }
+        ensures before { session.new.before ≡ session.old.before }
+        ensures seen { session.new.seen ≡ session.old.seen }
+        ensures free { FreesRing result session.old.free session.new.free }
+        ensures turn { DiscardTurn session.old.client page result
+            session.old.said session.new.said }
+    {
+        session.book.reserve_for_event()?;
+        let mut state = self.lock_and_drain(rt, session);
+        let answer = state.discard(session, page);
+        self.unlock_or_wait(rt, state, &answer);
+        answer
+    }
+
+    /// Has a page leave its frame without being written out, and forgets its references: `Left`, or `Absent` where it
+    /// is in no frame. Its writes that had not gone out are lost. Where the page is being read or written out, the call
+    /// waits for the end of some device work and asks again. It looks at no mark.
+    ///
+    /// The session's list gets the events as the trail does. `Pinned`, where a client holds a pass of the page, is the
+    /// reply of the last one; `TrailFull` and `OutOfMemory` as from `fix`.
+    pub fn discard<R: Wait>(
+        &self,
+        rt: &R,
+        session: &mut Session<N, K>,
+        page: PageNo,
+    ) -> Result<Discarded, Refusal>
+        requires page_in { page < N.parameters.pages }
+        ensures client { session.new.client ≡ session.old.client }
+        ensures before { session.new.before ≡ session.old.before }
+        ensures seen { session.new.seen ≡ session.old.seen }
+        ensures free { FreesRing result session.old.free session.new.free }
+        ensures outcome { DiscardSaid session.old.client page result
+            session.old.said session.new.said }
+    {
+        for _ in rt.forever() {
+            match self.ask_discard(rt, session, page) {
+                Ok(how) => return Ok(how),
+                Err(refusal) => match refusal {
+                    // Some device work has ended: ask again.
+                    Refusal::Busy => {}
+                    other => return Err(other),
+                },
+            }
+        }
+        unreachable!()
+    }
+}
