@@ -22,7 +22,7 @@
  * Threads. Any thread may make any call at any time, while others make others, with three rules:
  *
  *   - A page is given back, and put to, by the thread that fixed it. Another thread is refused with HZ_UNKNOWN_PASS.
- *     Where a thread ends, what it has still fixed is given back.
+ *     Where a thread ends, what it has still fixed is given back; hz_pager_free may come beside that.
  *   - A thread waits for no latch of its own. So where it has a latch of a page, it is refused with HZ_DEADLOCK if it
  *     fixes that page again, except with HZ_PINNED; and if it has an exclusive latch, a flush of that page and each
  *     checkpoint are refused so.
@@ -31,11 +31,10 @@
  *     have where that is refused with HZ_BUSY. A flush and a checkpoint wait for exclusive latches too.
  *
  * These the library cannot tell, and what it does then is not defined: a handle of a pager that is neither all zero nor
- * as these calls left it, or that is a copy; hz_pager_free while another thread is in a call of that pager, or has
- * pages of it and ends (join it first); a pointer to other memory than its type says, or to fewer bytes than the length
- * beside it; a write to a page's bytes, or a look at them after it was given back; a callback that throws, or that longjmp
- * leaves; a call from a signal handler, in a child after fork, or of a thread that is cancelled within it; a file that
- * was opened with O_APPEND.
+ * as these calls left it, or that is a copy; hz_pager_free while another thread is in a call of that pager; a pointer
+ * to other memory than its type says, or to fewer bytes than the length beside it; a write to a page's bytes, or a look
+ * at them after it was given back; a callback that throws, or that longjmp leaves; a call from a signal handler, in a
+ * child after fork, or of a thread that is cancelled within it; a file that was opened with O_APPEND.
  *
  * At its end a thread gives back the pages that it has. After that, as in handlers of atexit, hz_pager_fix and
  * hz_pager_new_page are refused with HZ_UNKNOWN_PASS, and flushes, checkpoints and hz_pager_free are made as before.
@@ -54,22 +53,27 @@ extern "C" {
  *     HZ_NO_VICTIM      all pages that could make way were pinned for the whole time that a call waits
  *     HZ_NEED_LOG       the log could not be made durable; the fault has the LSN, and the errno of the callback
  *     HZ_BUSY           a latch cannot be had at once, with HZ_TRY; or a page is still fixed, when a pager is freed
+ *     HZ_PAGE_PINNED    a page that is to be dropped is fixed
  *     HZ_UNKNOWN_PASS   this thread has not fixed the page, or has given it back
  *     HZ_READ_FAILED    a page could not be read, and is in no frame; the fault has the page and the errno
  *     HZ_WRITE_FAILED   a page could not be written out, and is unsaved; the fault has the page and the errno
  *     HZ_WRONG_PAGE     what was read is another page, or is spoilt
+ *     HZ_CLOCK_FULL     the clock of a part has come to its end, as a period of nearly 2^62 may bring about. A page
+ *                       that is fixed can still be fixed again
  *     HZ_OUT_OF_MEMORY  there is no memory for what the call needs
  *     HZ_OUT_OF_PAGE    the file has no such page, or the bytes are not within the page
  *     HZ_NO_CORE        the handle has no pager
  *     HZ_HAS_CORE       the handle has a pager already
  */
 enum hz_pager_refusal {
-    HZ_SYNC_FAILED = 71,   /* the device could not be synced: what was written since the last good sync may be lost */
-    HZ_DEADLOCK = 72,      /* the call would wait for a latch that this thread has */
-    HZ_NOT_EXCLUSIVE = 73, /* the page is not under its exclusive latch */
-    HZ_IN_CALLBACK = 74,   /* a callback of this pager may not make the call */
-    HZ_PANICKED = 75,      /* the library found a fault of its own, or a page has 500,000 pins or latches. Standard
-                              error has a line of it */
+    HZ_VERSION_MISMATCH = 61, /* the library was built over a core of another version, and makes no pager */
+    HZ_SYNC_FAILED = 71,      /* the device could not be synced: what was written since the last good sync may be
+                                 lost */
+    HZ_DEADLOCK = 72,         /* the call would wait for a latch that this thread has */
+    HZ_NOT_EXCLUSIVE = 73,    /* the page is not under its exclusive latch */
+    HZ_IN_CALLBACK = 74,      /* a callback of this pager may not make the call */
+    HZ_PANICKED = 75,         /* the library found a fault of its own, or a page has 500,000 pins or latches. Standard
+                                 error has a line of it */
 };
 
 /* How a page is fixed: one of the first three, or one of them with HZ_TRY, as HZ_SHARED | HZ_TRY. */
@@ -105,7 +109,7 @@ typedef struct hz_pager_config {
     size_t frames;        /* the most pages in memory: 1 to 65,536 for each part. No default */
     size_t parts;         /* pools side by side, each with a lock: 1 to 64. Else by the processors */
     uint64_t correlated;  /* the two periods of LRU-K, in fixes: 1 to 2^62, or HZ_NO_PERIOD for one of no length. */
-    uint64_t retained;    /* Else an eighth of the frames, and one without end */
+    uint64_t retained;    /* Else an eighth of the frames, and eight times the frames */
     uint64_t pin_wait_ms; /* how long a call waits where all pages that could make way are pinned. Else 10,000 */
     uint8_t k;            /* the K of LRU-K: 1 to 16. Else 2 */
     uint8_t tells_each_pin; /* 1: each fix is told to LRU-K at once, which takes a lock. Else a page that is fixed, or
@@ -125,7 +129,8 @@ typedef struct hz_pager_config {
  * hz_pager_stats_of, hz_pager_is_resident, hz_pager_fault_of, hz_pager_text. It may make any call on another pager. */
 typedef struct hz_io {
     void *own;
-    /* Reads a page into the image. After an error the image may hold anything. */
+    /* Reads a page into the image. It answers HZ_IO_WRONG_PAGE where it finds another page there, or a wrong checksum.
+     * After an error the image may hold anything. */
     int (*read)(void *own, uint64_t page, uint8_t *image, size_t page_size);
     /* Writes the image in the page's place. The image is a copy, and may be changed: the page LSN and a checksum can
      * be put into it. The log is durable as far as lsn. After an error the page is unsaved. */
@@ -154,6 +159,7 @@ typedef struct hz_pager_stats {
     uint64_t writes;    /* write-outs that went well */
     uint64_t failed;    /* reads and write-outs that failed */
     uint64_t refused;   /* times that a pool could not do at once what it was asked for */
+    uint64_t discards;  /* pages that left a frame by hz_pager_discard */
     uint64_t waits;     /* times that a thread slept till a page was read, written out or unpinned */
     size_t resident;    /* pages in frames */
     size_t pinned;      /* of these, pages that are fixed */
@@ -167,20 +173,31 @@ typedef struct hz_pager_stats {
  *     HZ_NULL          also where a callback is null
  *     HZ_HAS_CORE
  *     HZ_BAD_SETTINGS, HZ_BAD_GEOMETRY  a field of the config is out of its limits
+ *     HZ_VERSION_MISMATCH
  *     HZ_OUT_OF_MEMORY
  */
 uint16_t hz_pager_new(const hz_pager_config *config, const hz_io *io, hz_pager *pager);
 
 /* Makes a pager over a page file, without a log: each LSN counts as durable. The file is open for reading and writing,
- * and is still the engine's: close it after hz_pager_free. It is of format 1, which has the pages one after the other,
- * or of format 2, with 16 bytes before each (hz_file.h). Where config->pages is 0 it has as many as the file, whose
- * last one has to be whole: else it is refused with HZ_BAD_GEOMETRY.
- * Refused: as hz_pager_new; HZ_BAD_SETTINGS for another format; HZ_READ_FAILED where the descriptor tells no length. */
+ * and is still the engine's: close it after hz_pager_free. Where config->pages is 0 it has as many pages as the file,
+ * whose last one has to be whole.
+ *
+ * A file of format 1 has the pages one after the other. A new one is made by ftruncate(fd, pages * page_size): it has
+ * pages of zeros. A file of format 2 has 16 bytes before each page: its number and the LSN it was written with, each of
+ * 8 bytes, little end first. A new one is made by hz_file_fill of hz_file.h, after
+ * hz_file_init(&file, fd, 2, page_size, slot, sizeof slot): it has pages of zeros too. Or each page is made by
+ * hz_pager_new_page before it is fixed otherwise, since a page that has not its number there is refused with
+ * HZ_WRONG_PAGE.
+ *
+ * Refused: as hz_pager_new; HZ_BAD_SETTINGS for another format; HZ_READ_FAILED where the descriptor is of no open file,
+ * as -1 is not: the fault has no page, and the errno that fstat gives; HZ_BAD_GEOMETRY where the file does not end with
+ * a whole page, and config->pages is 0. */
 uint16_t hz_pager_new_file(const hz_pager_config *config, int fd, int format, hz_pager *pager);
 
 /* Frees a pager, whose handle has none then. It writes nothing out: pages that are unsaved are lost, so make a
- * checkpoint before. No other thread may be in a call of it. Refused: HZ_NO_CORE; HZ_IN_CALLBACK; HZ_BUSY where a page
- * is fixed, by whichever thread. */
+ * checkpoint before. No other thread may be in a call of it. One that has pages of it may be ending: then the call is
+ * refused, or waits until these are given back. Refused: HZ_NO_CORE; HZ_IN_CALLBACK; HZ_BUSY where a page is fixed, by
+ * whichever thread. */
 uint16_t hz_pager_free(hz_pager *pager);
 
 /* Fixes a page: gives it in *ref, with a latch or pinned, until hz_pager_unfix. It is read if it is in no frame, and
@@ -192,7 +209,8 @@ uint16_t hz_pager_free(hz_pager *pager);
  *     HZ_DEADLOCK      this thread has a latch of the page
  *     HZ_BUSY          with HZ_TRY, where the latch is not free
  *     HZ_NO_VICTIM     with HZ_TRY at once
- *     HZ_NEED_LOG, HZ_READ_FAILED, HZ_WRITE_FAILED, HZ_WRONG_PAGE, HZ_OUT_OF_MEMORY
+ *     HZ_UNKNOWN_PASS  in a handler of atexit, and the like
+ *     HZ_NEED_LOG, HZ_READ_FAILED, HZ_WRITE_FAILED, HZ_WRONG_PAGE, HZ_CLOCK_FULL, HZ_OUT_OF_MEMORY
  */
 uint16_t hz_pager_fix(const hz_pager *pager, uint64_t page, uint32_t how, hz_ref *ref);
 
@@ -218,6 +236,20 @@ uint16_t hz_pager_mark(const hz_pager *pager, uint64_t lsn);
  * HZ_DEADLOCK; HZ_NEED_LOG, HZ_WRITE_FAILED, HZ_OUT_OF_MEMORY, after which it is unsaved. */
 uint16_t hz_pager_flush(const hz_pager *pager, uint64_t page);
 
+/* Drops so many pages from the first one on: they leave their frames without being written out, and their references
+ * are forgotten. It is for pages that are of no use any longer, as those of a table that is dropped or of a file that
+ * is truncated. What was put there and is not on the device is lost, and holds hz_pager_redo_from back no longer. No
+ * callback is called. *resident gets how many were in frames. The call waits while a page is read or written out, and
+ * at most pin_wait_ms for other threads to give it back.
+ *
+ * Make durable first what frees the pages for good, as the commit record of the transaction that drops their table:
+ * else they may come back, by a crash or by its end without a commit, and lack what was lost here. A page that is used
+ * again begins with hz_pager_new_page, and its first record has all of its bytes.
+ *
+ * Refused: HZ_OUT_OF_PAGE where the file has not all of these pages: none is dropped then; HZ_PAGE_PINNED where one of
+ * them is still fixed, by this thread too: those before it are dropped. */
+uint16_t hz_pager_discard(const hz_pager *pager, uint64_t first, uint64_t count, uint64_t *resident);
+
 /* Writes out each page that was unsaved when the call began, in the order of the file, and then syncs the device.
  *
  * It tells in *lsn from which LSN redo has to begin: the least of all puts that may not be on the device, where
@@ -237,7 +269,7 @@ uint16_t hz_pager_checkpoint(const hz_pager *pager, uint64_t *lsn, uint8_t *has_
 uint16_t hz_pager_clean(const hz_pager *pager, size_t most, size_t *count);
 
 /* Forgets the references of pages that are in no frame and whose newest reference is older than the retained period.
- * *count gets how many. */
+ * *count gets how many. The pager does so by itself, a few pages at a time: there is no need to call this. */
 uint16_t hz_pager_purge(const hz_pager *pager, uint64_t *count);
 
 /* The calls from here on only tell.
@@ -254,9 +286,9 @@ uint16_t hz_pager_is_resident(const hz_pager *pager, uint64_t page, uint8_t *is_
 /* Tells of the newest call of this thread that was refused. Later calls that go well do not change it. */
 uint16_t hz_pager_fault_of(hz_pager_fault *out);
 
-/* Writes the text of that refusal, with its page and the text of its errno, as "page 7 could not be read: No space left
- * on device": as much as fits, with a zero at its end. Returns the length of the whole, without the zero. Where `into`
- * is null or len is 0, nothing is written. */
+/* Writes the text of that refusal, with its page and the text of its errno, as "page 7: it could not be written: File
+ * too large (os error 27)": as much as fits, with a zero at its end. Returns the length of the whole, without the zero.
+ * Where `into` is null or len is 0, nothing is written. */
 size_t hz_pager_text(char *into, size_t len);
 
 /* The HZ_VERSION of the library. */

@@ -39,11 +39,13 @@ A `Pool` moves no bytes: each page counts as read as soon as it is asked for, an
 The libraries are looked for in $HOJZMATED_PREFIX/lib, then in the checkout of this file (`make -C bindings/c pager`),
 and then where the system's loader looks.
 """
+import _thread
 import collections
 import ctypes
 import ctypes.util
 import operator
 import os
+import sys
 import threading
 import weakref
 
@@ -56,6 +58,7 @@ LEAST_PAGE = 16
 BYTE = 1 << 8
 
 NO_VICTIM = 11
+UNKNOWN_PASS = 14
 HIT = 1
 
 
@@ -82,7 +85,8 @@ class _Fixed(ctypes.Structure):
 
 class _Stats(ctypes.Structure):
     _fields_ = [*((name, ctypes.c_uint64) for name in ("hits", "faults", "evictions", "writes", "failed", "refused")),
-                *((name, ctypes.c_size_t) for name in ("resident", "pinned", "unsaved", "loading", "writing"))]
+                *((name, ctypes.c_size_t) for name in ("resident", "pinned", "unsaved", "loading", "writing")),
+                ("discards", ctypes.c_uint64)]
 
 
 _CORE, _GRANT, _BYTES = ctypes.POINTER(_Core), ctypes.POINTER(_Grant), ctypes.POINTER(ctypes.c_uint8)
@@ -95,6 +99,7 @@ _FUNCTIONS = {
     "hz_read_end": (_NUMBER, _CORE, _GRANT, _BYTES, _SIZE, _GRANT),
     "hz_unfix": (_NUMBER, _CORE, _GRANT),
     "hz_tick": (_NUMBER, _CORE, _U8, _U64),
+    "hz_discard": (_NUMBER, _CORE, _U8, _U64, ctypes.POINTER(_U8)),
     "hz_purge": (_NUMBER, _CORE, _U8, ctypes.POINTER(_U64)),
     "hz_stats_of": (_NUMBER, _CORE, ctypes.POINTER(_Stats)),
     "hz_is_resident": (_NUMBER, _CORE, _U64, ctypes.POINTER(_U8)),
@@ -256,6 +261,17 @@ class Pool:
         with self._lock:
             _check(_hz.hz_tick(self._core, client, n))
 
+    def discard(self, page, client=0):
+        """Has a page leave its frame, and forgets its references. Returns True if it was in a frame.
+
+        Refused: 41 for a client that is not one, 45 for a page that is not one, 25 where it is pinned.
+        """
+        page, client = _number("page", page), _number("client", client, BYTE)
+        was_resident = ctypes.c_uint8()
+        with self._lock:
+            _check(_hz.hz_discard(self._core, client, page, was_resident))
+        return bool(was_resident.value)
+
     def purge(self, client=0):
         """Forgets the references of pages in no frame whose newest reference is older than the retained period. Returns
         the number of these pages."""
@@ -320,7 +336,7 @@ class _Fault(ctypes.Structure):
 
 class _PagerStats(ctypes.Structure):
     _fields_ = [*((name, ctypes.c_uint64) for name in ("hits", "faults", "evictions", "writes", "failed", "refused",
-                                                       "waits")),
+                                                       "discards", "waits")),
                 *((name, ctypes.c_size_t) for name in ("resident", "pinned", "unsaved", "memory"))]
 
 
@@ -333,6 +349,7 @@ _PAGER_FUNCTIONS = {
     "hz_pager_put": (_NUMBER, _REF, _SIZE, ctypes.c_char_p, _SIZE, _U64),
     "hz_pager_unfix": (_NUMBER, _REF),
     "hz_pager_flush": (_NUMBER, _PAGER, _U64),
+    "hz_pager_discard": (_NUMBER, _PAGER, _U64, _U64, ctypes.POINTER(_U64)),
     "hz_pager_checkpoint": (_NUMBER, _PAGER, ctypes.POINTER(_U64), ctypes.POINTER(_U8)),
     "hz_pager_clean": (_NUMBER, _PAGER, _SIZE, ctypes.POINTER(_SIZE)),
     "hz_pager_purge": (_NUMBER, _PAGER, ctypes.POINTER(_U64)),
@@ -374,6 +391,39 @@ and the memory that the pager has, in bytes."""
 PagerStats.hit_ratio = property(lambda it: _ratio(it.hits, it.hits + it.faults), doc="Hits over hits and faults.")
 
 
+class _Pages(dict):
+    """The pages that one thread has fixed, by their serial numbers. It goes as the thread ends."""
+
+    def __del__(self, is_finalizing=sys.is_finalizing):
+        # As the interpreter ends nobody looks at a page any more.
+        if not is_finalizing():
+            for page in list(self.values()):
+                page._end()
+
+
+class _Own(threading.local):
+    """What each thread has for itself."""
+
+    def __init__(self):
+        self.pages = _Pages()
+
+
+_own = _Own()
+
+
+def _keep(pager, number, is_kept, is_gone):
+    """Keeps a page in its frame until an event. It is run in a thread of its own, and releases the lock `is_kept` once
+    the page is pinned."""
+    ref = _Ref()
+    try:
+        _Library.call("hz_pager_fix", pager._pager, number, PINNED, ref)
+    finally:
+        is_kept.release()
+    is_gone.wait()
+    with pager._ending:
+        _Library.call("hz_pager_unfix", ref)
+
+
 class FixedPage:
     """A page that stays in its frame until `unfix`, or until the end of a `with`, which are for the thread that fixed
     it.
@@ -383,23 +433,34 @@ class FixedPage:
     `bytes`, such as slices and arrays, has to be gone before the page is unfixed: else BufferError is raised, and the
     page stays as it was. Keep a copy (`bytes(..)`, `array.copy()`) of what is needed later.
 
-    A thread that ends gives back the pages that it fixed. Nothing sees to it that `bytes` of these are not looked at
-    after that, and there may then be another page or none: so let no page outlive the thread that fixed it.
+    A thread that ends gives back the pages that it fixed. `bytes` of a page that was given back are refused with 14,
+    and a `memoryview` that was taken from there before raises ValueError. A slice or an array that is still there as
+    its thread ends shows the page further on, which stays in its frame until they are gone. But it has no latch then:
+    other threads may put to the page meanwhile.
     """
 
-    def __init__(self, ref, page_size):
-        self._ref, self.number = ref, ref.page
-        self.bytes = self._bytes = None
+    def __init__(self, pager, ref):
+        self._pager, self._ref, self.number = pager, ref, ref.page
+        self._view = self._memory = None
+        self._is_over = False
         if ref.bytes:
-            self._lend((ctypes.c_uint8 * page_size).from_address(ref.bytes))
+            self._lend((ctypes.c_uint8 * pager.page_size).from_address(ref.bytes))
+        _own.pages[ref.serial] = self
 
     def _lend(self, memory):
-        self.bytes, self._bytes = memoryview(memory).cast("B").toreadonly(), weakref.ref(memory)
+        self._view, self._memory = memoryview(memory).cast("B").toreadonly(), weakref.ref(memory)
+
+    @property
+    def bytes(self):
+        if self._is_over:
+            raise Refused(UNKNOWN_PASS, f"page {self.number} was given back", self.number)
+        return self._view
 
     def put(self, offset, data, lsn=0):
         """Writes bytes into the page from the offset on. `data` is anything that has bytes in a row, such as an array.
 
-        Refused: 45 where they are not within the page, 73 for a page that is not from `write` or `new_page`.
+        Refused: 14 for a page that was given back, or that another thread fixed; 45 where they are not within the page;
+        73 for a page that is not from `write` or `new_page`.
         """
         data = memoryview(data).cast("B").tobytes()
         offset, lsn = _number("offset", offset), _number("lsn", lsn)
@@ -408,22 +469,42 @@ class FixedPage:
     def unfix(self):
         """Gives the page back, with its latch. Refused: 14 where it was given back already, or another thread fixed it.
         BufferError where a slice or an array of `bytes` is still there."""
-        self._take_back()
-        try:
-            _Library.call("hz_pager_unfix", self._ref)
-        except Refused:
-            self.bytes = None
-            raise
+        is_own = self._ref.serial in _own.pages
+        if is_own and self._take_back() is not None:
+            raise BufferError(f"a slice of page {self.number} is still there: copy what is needed later")
+        self._is_over |= is_own
+        _own.pages.pop(self._ref.serial, None)
+        _Library.call("hz_pager_unfix", self._ref)
 
     def _take_back(self):
-        if self.bytes is None:
-            return
-        self.bytes.release()  # BufferError where an array has it
-        memory = self._bytes()
+        """Ends that the bytes are lent. Returns their memory, where something else has it that was made of them: then
+        they still are."""
+        memory = self._memory and self._memory()
+        if memory is None:
+            return None
+        try:
+            self._view.release()
+        except BufferError:
+            return memory
+        self._view = None
+        del memory
+        memory = self._memory()
         if memory is not None:
             self._lend(memory)
-            raise BufferError(f"a slice of page {self.number} is still there: copy what is needed later")
-        self.bytes = None
+        return memory
+
+    def _end(self):
+        """Gives the page back as its thread ends. If a slice or an array is still there, another thread pins it."""
+        self._is_over = True
+        memory, self._view = self._take_back(), None
+        if memory is not None:
+            is_kept, is_gone = threading.Lock(), threading.Event()
+            weakref.finalize(memory, is_gone.set).atexit = False
+            is_kept.acquire()
+            _thread.start_new_thread(_keep, (self._pager, self.number, is_kept, is_gone))
+            is_kept.acquire()
+        with self._pager._ending:
+            _Library.loaded.hz_pager_unfix(self._ref)
 
     def __enter__(self):
         return self
@@ -441,10 +522,12 @@ class Pager:
 
     `path` is the file. With `pages` it is made if it is not there, and gets pages of zeros where it has less; without,
     it has as many as it has. A file that does not end with a whole page is refused, and nothing is written to it.
-    `format` 1 is a file of the bytes of the pages alone, 2 has 16 bytes before each, with its number and its LSN. At most `frames` pages are in memory, and LRU-`k` chooses who makes way. `correlated`
-    and `retained` are its periods, in fixes, by default an eighth of the frames and one without end. `parts` are pools
-    side by side, by default by the processors. A call waits `pin_wait` seconds where all pages that could make way are
-    pinned, and is refused with 11 then.
+    `format` 1 is a file of the bytes of the pages alone, 2 has 16 bytes before each, with its number and its LSN.
+
+    At most `frames` pages are in memory, and LRU-`k` chooses who makes way. `correlated` and `retained` are its
+    periods, in fixes, by default an eighth of the frames and eight times the frames. `parts` are pools side by side, by
+    default by the processors. A call waits `pin_wait` seconds where all pages that could make way are pinned, and is
+    refused with 11 then.
 
     Threads may share a pager, and run side by side in its calls. There is no log. What was put is in the file after
     `checkpoint`, which `close` does not call. A refusal is raised as `Refused`, and an error of the file is one, with
@@ -458,6 +541,7 @@ class Pager:
             frames=_number("frames", frames), parts=_number("parts", parts), correlated=_period(correlated),
             retained=_period(retained), pin_wait_ms=max(1, int(pin_wait * 1000)), k=_number("k", k, BYTE))
         self.page_size, self._pager, self._fd = page_size, _Pager(), None
+        self._ending = threading.Lock()  # pages of threads that end are given back, or the pager is freed
         self._fd = os.open(path, os.O_RDWR | os.O_CLOEXEC | (os.O_CREAT if pages else 0), 0o666)
         try:
             _Library.call("hz_pager_new_file", config, self._fd, format, self._pager)
@@ -486,7 +570,7 @@ class Pager:
     def _fixed(self, page, how, wait=True):
         ref = _Ref()
         _Library.call("hz_pager_fix", self._pager, _number("page", page), how if wait else how | TRY, ref)
-        return FixedPage(ref, self.page_size)
+        return FixedPage(self, ref)
 
     def read(self, page, wait=True):
         """Returns a page under its shared latch: other threads may read it too, and none writes to it.
@@ -511,11 +595,19 @@ class Pager:
         `read`."""
         ref = _Ref()
         _Library.call("hz_pager_new_page", self._pager, _number("page", page), ref)
-        return FixedPage(ref, self.page_size)
+        return FixedPage(self, ref)
 
     def flush(self, page):
         """Writes a page to the file, if it was put to since it was written last."""
         _Library.call("hz_pager_flush", self._pager, _number("page", page))
+
+    def discard(self, page, count=1):
+        """Drops so many pages from this one on, which are of no use any longer: they leave their frames unwritten, and
+        what was put to them and is not in the file is lost. Returns how many were in frames. Refused: 25 where one of them
+        is still fixed."""
+        resident = _U64()
+        _Library.call("hz_pager_discard", self._pager, _number("page", page), _number("count", count), resident)
+        return resident.value
 
     def checkpoint(self):
         """Writes all pages to the file that were put to before, and syncs it. Refused: 71 where the sync failed, 72
@@ -530,7 +622,7 @@ class Pager:
 
     def purge(self):
         """Forgets the references of pages in no frame whose newest reference is older than the retained period. Returns
-        the number of these pages."""
+        the number of these pages. The pager does so by itself, a few pages at a time."""
         count = _U64()
         _Library.call("hz_pager_purge", self._pager, count)
         return count.value
@@ -551,8 +643,9 @@ class Pager:
         """Frees the pager and closes the file; what was put since the last `checkpoint` may be lost. Refused: 13 while
         a page is fixed. Each further call is refused with 50; closing it again does nothing. No other thread may be in
         a call of it."""
-        if self._pager.own:
-            _Library.call("hz_pager_free", self._pager)
+        with self._ending:
+            if self._pager.own:
+                _Library.call("hz_pager_free", self._pager)
         if self._fd is not None:
             os.close(self._fd)
             self._fd = None
@@ -564,8 +657,8 @@ class Pager:
         self.close()
 
     def __del__(self):
-        # A pager whose making failed may have no handle. One of which a page is fixed stays.
-        if hasattr(self, "_pager"):
+        # A pager whose making failed may have no lock. One of which a page is fixed stays.
+        if hasattr(self, "_ending"):
             try:
                 self.close()
             except Refused:

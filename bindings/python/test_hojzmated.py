@@ -19,6 +19,11 @@ from unittest import mock
 
 import hojzmated
 
+try:
+    import numpy
+except ImportError:
+    numpy = None
+
 TOP = os.path.dirname(os.path.dirname(os.path.dirname(os.path.realpath(__file__))))
 
 
@@ -256,6 +261,22 @@ class Pools(unittest.TestCase):
             pool.tick()
             self.assertEqual(pool.purge(), 1)
 
+    # Page 0 came twice, and page 1 once: page 1 would leave first. But page 0 is dropped, and comes anew.
+    def test_discard(self):
+        with hojzmated.Pool(pages=8, frames=2) as pool:
+            for number in 0, 0, 1:
+                pool.fix(number).unfix()
+                pool.tick()
+            page = pool.fix(1)
+            self.refused(25, pool.discard, 1)
+            page.unfix()
+            self.refused(45, pool.discard, 8)
+            self.refused(41, pool.discard, 0, client=1)
+            self.assertEqual((pool.discard(0), pool.is_resident(0), pool.discard(0)), (True, False, False))
+            pool.fix(0).unfix()
+            pool.tick()
+            self.assertEqual(pool.fix(2).evicted, 0)
+
     def test_closed_pool(self):
         pool = hojzmated.Pool(pages=8, frames=2)
         page = pool.fix(1)
@@ -331,7 +352,14 @@ class Pagers(unittest.TestCase):
                     self.assertEqual(slot[:head], b"".join(it.to_bytes(8, "little") for it in (number, number))[:head])
                     self.assertEqual(slot[head:head + 16], bytes([number]) * 9 + bytes(7))
                 self.assertEqual(file.read(), b"")
-            with self.pager(pages=None, format=format) as pager:
+            with self.pager(pages=None, format=format, pin_wait=0.01) as pager:
+                with pager.write(2) as page:
+                    page.put(0, b"dropped")
+                    self.refused(25, pager.discard, 2, page=2)
+                self.refused(45, pager.discard, 2, 15)
+                self.assertEqual((pager.discard(2, 3), pager.stats().discards), (1, 1))
+                with pager.read(2) as page:
+                    self.assertEqual(bytes(page.bytes[:8]), bytes([2]) * 8)
                 self.refused(45, pager.read, 16, page=16)
                 with pager.new_page(3) as page:
                     self.assertEqual(bytes(page.bytes), bytes(64))
@@ -362,7 +390,7 @@ class Pagers(unittest.TestCase):
                 with self.assertRaises(TypeError):
                     lent[0] = 1
             self.assertRaises(ValueError, lambda: lent[0])
-            self.assertIsNone(page.bytes)
+            self.assertIn("page 1 was given back", self.refused(14, lambda: page.bytes, page=1))
             # A slice, another form of the same bytes, one more view, and what takes the bytes as an array does.
             for kept in lambda it: it[2:6], lambda it: it.cast("Q"), memoryview, pickle.PickleBuffer:
                 page = pager.write(2)
@@ -376,6 +404,101 @@ class Pagers(unittest.TestCase):
             with pager.pin(2) as page:
                 self.assertIsNone(page.bytes)
                 self.assertEqual(repr(page), "<page 2, pinned>")
+            self.refused(14, lambda: page.bytes, page=2)
+
+    # The pages of a thread that ends are given back, and what was lent of them can't be looked at.
+    def test_bytes_end_with_the_thread(self):
+        with self.pager() as pager:
+            def fix():
+                page, pin, other = pager.write(1), pager.pin(2), pager.read(3)
+                page.put(0, b"put")
+                self.assertEqual(bytes(page.bytes[:3]), b"put")
+                return page, page.bytes, pin, other
+
+            page, lent, pin, other = in_thread(fix)
+            self.assertEqual(pager.stats().pinned, 0)
+            for it in page, pin, other:
+                self.refused(14, lambda: it.bytes, page=it.number)
+                self.refused(14, it.unfix)
+            self.refused(14, page.put, 0, b"x")
+            self.assertRaises(ValueError, lambda: lent[0])
+            for number in 1, 2, 3:
+                pager.write(number, wait=False).unfix()
+
+    # A slice that outlives the thread shows its page further on: it stays in its frame till the slice is gone.
+    def test_slice_outlives_its_thread(self):
+        with self.pager() as pager:
+            def fix():
+                page = pager.write(1)
+                page.put(0, b"of page 1")
+                return page, page.bytes[:9], memoryview(page.bytes)
+
+            page, part, whole = in_thread(fix)
+            self.refused(14, lambda: page.bytes, page=1)
+            for number in range(2, 16):
+                with pager.write(number) as other:
+                    other.put(0, b"other" * 12)
+            self.assertEqual((bytes(part), bytes(whole[:9])), (b"of page 1", b"of page 1"))
+            self.assertEqual((pager.stats().pinned, pager.is_resident(1)), (1, True))
+            self.refused(13, pager.close)
+            with pager.write(1, wait=False) as again:
+                again.put(0, b"by others")
+            self.assertEqual(bytes(part), b"by others")
+            del part, whole
+            self.wait_till(lambda: pager.stats().pinned == 0)
+
+    def wait_till(self, is_so):
+        end = time.monotonic() + 60
+        while not is_so():
+            self.assertLess(time.monotonic(), end)
+            time.sleep(0.001)
+
+    # Another thread is refused, and the page of the first one stays as it was.
+    def test_unfix_of_another_thread(self):
+        with self.pager() as pager:
+            with pager.read(1) as page:
+                self.refused(14, in_thread, page.unfix)
+                self.assertEqual(bytes(page.bytes), bytes(64))
+                self.assertEqual(in_thread(lambda: bytes(page.bytes)), bytes(64))
+
+    @unittest.skipUnless(numpy, "no numpy")
+    def test_numpy(self):
+        with self.pager() as pager:
+            page = pager.write(1)
+            page.put(0, numpy.arange(8, dtype="<u8"))
+            array = numpy.frombuffer(page.bytes, dtype="<u8")
+            self.assertEqual(array.tolist(), list(range(8)))
+            page.put(8, numpy.array([70], dtype="<u8"))
+            self.assertEqual(array[1], 70)  # it is the page in place
+            with self.assertRaises(ValueError):
+                array[1] = 1
+            part, copy = array[2:4], array.copy()
+            self.assertRaises(BufferError, page.unfix)
+            self.assertEqual(page.bytes[8], 70)
+            del array
+            self.assertRaises(BufferError, page.unfix)
+            self.assertEqual(part.tolist(), [2, 3])
+            del part
+            page.unfix()
+            self.assertEqual((copy[1], pager.stats().pinned), (70, 0))
+
+    @unittest.skipUnless(numpy, "no numpy")
+    def test_numpy_outlives_its_thread(self):
+        with self.pager() as pager:
+            def fix():
+                page = pager.write(1)
+                page.put(0, numpy.arange(8, dtype="<u8"))
+                return page, numpy.frombuffer(page.bytes, dtype="<u8")
+
+            page, array = in_thread(fix)
+            self.refused(14, lambda: page.bytes, page=1)
+            for number in range(2, 16):
+                with pager.write(number) as other:
+                    other.put(0, b"other" * 12)
+            self.assertEqual(array.tolist(), list(range(8)))
+            self.refused(13, pager.close)
+            del array
+            self.wait_till(lambda: pager.stats().pinned == 0)
 
     def test_refusals(self):
         pager = self.pager(pin_wait=0.01)

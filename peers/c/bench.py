@@ -18,12 +18,8 @@ With FRAMES in the environment, 256 to 65,536, the pools have so many in place o
 alone; with K they have another K.
 
 With `threads` it measures the pager that many threads share, through Rust by bindings/rust/examples/bench_shared.rs and
-through C by peers/c/bench.c, in pages of 4,096 bytes and with 1, 2 and 4 threads. It has 4,096 frames. Beside it is
-peers/c/bench.c with Berkeley DB, and for look-ups in a tree also LMDB, by peers/c/lmdb.c. The operations are those of
-all threads.
-
-The files are in memory, in /dev/shm, where that is there and TMPDIR names no other folder: a file system that writes
-them to a disk meanwhile makes whoever writes wait for it, now and then.
+through C by peers/c/bench.c, in pages of 4,096 bytes and with 1, 2 and 4 threads. It has 4,096 frames. Beside it is peers/c/bench.c with Berkeley DB, and for look-ups
+in a tree also LMDB, by peers/c/lmdb.c. The operations are those of all threads.
 
 What stands on cargo, Berkeley DB or LMDB is left out where that is not there. The library comes of the proved one of
 $LIBRARY, or of the one that `rt lib` left in crates/hojzmated_c.
@@ -207,11 +203,6 @@ def numbers_of(words):
     return (rounds, seconds) if len(words) < 3 and rounds > 0 and seconds > 0 else None
 
 
-def in_memory():
-    """A folder whose files are in memory; none where TMPDIR names another, or there is none."""
-    return "/dev/shm" if "TMPDIR" not in os.environ and os.access("/dev/shm", os.W_OK) else None
-
-
 def main(words):
     measure = Shared if words[:1] == ["threads"] else Owner
     numbers = numbers_of(words[1:] if measure == Shared else words)
@@ -219,7 +210,7 @@ def main(words):
         print(__doc__.strip(), file=sys.stderr)
         return 2
     others = []
-    with tempfile.TemporaryDirectory(dir=in_memory()) as folder:
+    with tempfile.TemporaryDirectory() as folder:
         benches = built(measure, folder)
         rates = {(cell, name): [] for cell in measure.cells for name in benches}
         for number in range(numbers[0]):

@@ -1,5 +1,6 @@
 /* The least engine: a counter in each page of a file, to which four threads add one at each run. It keeps no log,
  * so each put has LSN 0, which needs none. */
+#define _POSIX_C_SOURCE 200809L /* for ftruncate, where the compiler has no GNU extensions */
 #include "hojzmated_pager.h"
 #include <fcntl.h>
 #include <pthread.h>

@@ -39,6 +39,7 @@ static void nulls(void)
     SAME(HZ_NULL, hz_pager_unfix(NULL));
     SAME(HZ_NULL, hz_pager_mark(NULL, 0));
     SAME(HZ_NULL, hz_pager_flush(NULL, 0));
+    SAME(HZ_NULL, hz_pager_discard(NULL, 0, 1, (uint64_t[1]){0}));
     SAME(HZ_NULL, hz_pager_checkpoint(NULL, &number, &flag));
     SAME(HZ_NULL, hz_pager_checkpoint(&pager, NULL, &flag));
     SAME(HZ_NULL, hz_pager_checkpoint(&pager, &number, NULL));
@@ -79,6 +80,7 @@ static void no_pager(void)
         SAME(HZ_NO_CORE, hz_pager_new_page(&pager, 0, &ref));
         SAME(HZ_NO_CORE, hz_pager_mark(&pager, 0));
         SAME(HZ_NO_CORE, hz_pager_flush(&pager, 0));
+        SAME(HZ_NO_CORE, hz_pager_discard(&pager, 0, 1, (uint64_t[1]){0}));
         SAME(HZ_NO_CORE, hz_pager_checkpoint(&pager, &number, &flag));
         SAME(HZ_NO_CORE, hz_pager_clean(&pager, 1, &count));
         SAME(HZ_NO_CORE, hz_pager_purge(&pager, &number));
@@ -187,6 +189,44 @@ static void new_pages(void)
     SAME(HZ_DONE, hz_pager_flush(&pager, 9));
     SAME('n', device.pages[9][0]);
     SAME(0, device.pages[9][1]);
+    end(&pager);
+}
+
+/* What was put to pages that are dropped goes nowhere, and their frames are free. */
+static void discards(void)
+{
+    hz_pager pager = start();
+    uint64_t resident = ODD, lsn = ODD;
+    uint8_t has_lsn = ODD;
+    hz_pager_stats stats;
+    for (uint64_t page = 1; page < 4; page++) {
+        hz_ref ref = fixed(&pager, page, HZ_EXCLUSIVE);
+        SAME(HZ_DONE, hz_pager_put(&ref, 0, (const uint8_t *)"d", 1, 10 + page));
+        SAME(HZ_DONE, hz_pager_unfix(&ref));
+    }
+    SAME(HZ_NULL, hz_pager_discard(&pager, 1, 1, NULL));
+    REFUSED(HZ_OUT_OF_PAGE, 0, 0, 0, 0, hz_pager_discard(&pager, 1, PAGES, &resident));
+    SAME(HZ_OUT_OF_PAGE, hz_pager_discard(&pager, UINT64_MAX, 2, &resident));
+    hz_ref ref = fixed(&pager, 2, HZ_PINNED);
+    REFUSED(HZ_PAGE_PINNED, 1, 2, 0, 0, hz_pager_discard(&pager, 2, 1, &resident));
+    SAYS("page 2: it is still fixed");
+    SAME(ODD, resident);
+    SAME(HZ_DONE, hz_pager_unfix(&ref));
+    SAME(HZ_DONE, hz_pager_discard(&pager, 1, 2, &resident));
+    SAME(2, resident);
+    SAME(HZ_DONE, hz_pager_discard(&pager, 1, 1, &resident));
+    SAME(0, resident);
+    SAME(HZ_DONE, hz_pager_redo_from(&pager, &lsn, &has_lsn));
+    SAME(13, lsn);
+    SAME(HZ_DONE, hz_pager_stats_of(&pager, &stats));
+    SAME(2, stats.discards);
+    SAME(1, stats.unsaved);
+    SAME(HZ_DONE, hz_pager_checkpoint(&pager, &lsn, &has_lsn));
+    SAME(1, device.writes);
+    SAME('d', device.pages[3][0]);
+    ref = fixed(&pager, 1, HZ_SHARED); /* as it was on the device */
+    SAME(true, is_filled(ref.bytes, SIZE, 1));
+    SAME(HZ_DONE, hz_pager_unfix(&ref));
     end(&pager);
 }
 
@@ -431,6 +471,7 @@ int main(void)
     settings();
     fixes();
     new_pages();
+    discards();
     puts_of();
     handles();
     ends_of_threads();

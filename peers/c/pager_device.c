@@ -4,6 +4,7 @@
  *     check/bindings        builds it with the library and the linker's --wrap of the calls for memory, and runs it
  */
 #define _POSIX_C_SOURCE 200809L
+#include "hz_file.h"
 #include "pager_test.h"
 #include <fcntl.h>
 #include <unistd.h>
@@ -375,21 +376,92 @@ static void files(void)
         SAME(0, ftruncate(fd, (off_t)(8 * size - 1))); /* page 7 is in no frame by now */
         REFUSED(HZ_READ_FAILED, 1, 7, 0, EIO, hz_pager_fix(&pager, 7, HZ_SHARED, &ref));
         end(&pager);
+        REFUSED(HZ_BAD_GEOMETRY, 0, 0, 0, 0, hz_pager_new_file(&config, fd, format, &pager)); /* no whole page */
         SAME(0, close(fd));
     }
     int fd = open("pager.pages", O_RDONLY);
     SAME(HZ_BAD_SETTINGS, hz_pager_new_file(&config, fd, 0, &pager));
     SAME(HZ_BAD_SETTINGS, hz_pager_new_file(&config, fd, 3, &pager));
-    SAME(HZ_BAD_SETTINGS, hz_pager_new_file(&config, -1, 1, &pager));
+    REFUSED(HZ_READ_FAILED, 0, 0, 0, EBADF, hz_pager_new_file(&config, -1, 1, &pager));
+    SAYS("the file could not be read: Bad file descriptor (os error 9)");
     config.pages = 2;
+    REFUSED(HZ_READ_FAILED, 0, 0, 0, EBADF, hz_pager_new_file(&config, -1, 2, &pager));
     SAME(HZ_DONE, hz_pager_new_file(&config, fd, 1, &pager));
     change(&pager, 1, 1, 1);
     REFUSED(HZ_WRITE_FAILED, 1, 1, 0, EBADF, hz_pager_flush(&pager, 1));
     end(&pager);
     SAME(0, close(fd));
-    config.pages = 0;
-    REFUSED(HZ_READ_FAILED, 0, 0, 0, EBADF, hz_pager_new_file(&config, fd, 1, &pager));
+    for (config.pages = 0; config.pages < 3; config.pages += 2)
+        REFUSED(HZ_READ_FAILED, 0, 0, 0, EBADF, hz_pager_new_file(&config, fd, 1, &pager));
     SAME(0, (uintptr_t)pager.own);
+}
+
+/* A new file of each format, made as the header says: pages of zeros, by hz_file_fill or ftruncate; or page by page. */
+static void new_files(void)
+{
+    static uint8_t slot[HZ_FILE_HEAD + SIZE];
+    hz_pager_config config = usual();
+    hz_pager pager = {0};
+    hz_ref ref;
+    uint64_t lsn;
+    uint8_t has_lsn;
+    for (int format = 1; format <= 2; format++) {
+        hz_file file;
+        int fd = open("pager.pages", O_RDWR | O_CREAT | O_TRUNC, 0600);
+        SAME(HZ_DONE, hz_file_init(&file, fd, format, SIZE, slot, sizeof slot));
+        if (format == 2)
+            SAME(HZ_DONE, hz_file_fill(&file, PAGES));
+        else
+            SAME(0, ftruncate(fd, PAGES * SIZE));
+        config.pages = 0;
+        SAME(HZ_DONE, hz_pager_new_file(&config, fd, format, &pager));
+        for (uint64_t page = 0; page < PAGES; page++) {
+            ref = fixed(&pager, page, HZ_SHARED);
+            SAME(true, is_filled(ref.bytes, SIZE, 0));
+            SAME(HZ_DONE, hz_pager_unfix(&ref));
+        }
+        REFUSED(HZ_OUT_OF_PAGE, 1, PAGES, 0, 0, hz_pager_fix(&pager, PAGES, HZ_SHARED, &ref));
+        end(&pager);
+        SAME(0, ftruncate(fd, 0));
+        config.pages = PAGES;
+        SAME(HZ_DONE, hz_pager_new_file(&config, fd, format, &pager));
+        for (uint64_t page = PAGES; page-- > 0;) {
+            SAME(HZ_DONE, hz_pager_new_page(&pager, page, &ref));
+            SAME(HZ_DONE, hz_pager_put(&ref, 8, (const uint8_t *)"new", 3, 0));
+            SAME(HZ_DONE, hz_pager_unfix(&ref));
+        }
+        SAME(HZ_DONE, hz_pager_checkpoint(&pager, &lsn, &has_lsn));
+        end(&pager);
+        for (uint64_t page = 0; page < PAGES; page++) {
+            SAME(HZ_DONE, hz_file_read(&file, page));
+            SAME(0, memcmp(hz_file_image(&file), "\0\0\0\0\0\0\0\0new", 12));
+        }
+        SAME(0, close(fd));
+    }
+}
+
+/* With a period of nearly 2^62 the clock comes to its end as the first page makes way for the second: from 3 on, by the
+ * period and one. A page that is fixed can still be fixed again. */
+static void clock_at_its_end(void)
+{
+    hz_pager_config config = usual();
+    hz_pager pager = start();
+    hz_ref ref;
+    end(&pager);
+    config.frames = 1;
+    config.correlated = ((uint64_t)1 << 62) - 4;
+    SAME(HZ_DONE, hz_pager_new(&config, &io, &pager));
+    use(&pager, 0);
+    hz_ref pin = fixed(&pager, 1, HZ_PINNED);
+    REFUSED(HZ_CLOCK_FULL, 1, 2, 0, 0, hz_pager_fix(&pager, 2, HZ_SHARED, &ref));
+    SAYS("page 2: the clock of a part has come to its end");
+    SAME(HZ_CLOCK_FULL, hz_pager_fix(&pager, 2, HZ_EXCLUSIVE, &ref));
+    SAME(HZ_CLOCK_FULL, hz_pager_new_page(&pager, 2, &ref));
+    ref = fixed(&pager, 1, HZ_SHARED);
+    SAME(true, is_filled(ref.bytes, SIZE, 1));
+    SAME(HZ_DONE, hz_pager_unfix(&ref));
+    SAME(HZ_DONE, hz_pager_unfix(&pin));
+    end(&pager);
 }
 
 /* ---- Panics and memory ---- */
@@ -405,7 +477,7 @@ static void panics(void)
     for (; count <= MOST && number == HZ_DONE; count++)
         number = hz_pager_fix(&pager, 1, HZ_PINNED, &pins[count]);
     SAME(HZ_PANICKED, number);
-    SAYS("the library found a fault of its own");
+    SAYS("the library found a fault of its own, or a page has 500,000 pins or latches");
     SAME(MOST, count - 1);
     for (size_t i = 0; i < MOST; i++)
         SAME(HZ_DONE, hz_pager_unfix(&pins[i]));
@@ -479,6 +551,8 @@ int main(void)
     callbacks();
     threads();
     files();
+    new_files();
+    clock_at_its_end();
     panics();
     memory();
     return 0;

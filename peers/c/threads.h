@@ -37,11 +37,12 @@ static double now(void)
     return (double)t.tv_sec + (double)t.tv_nsec * 1e-9;
 }
 
-/* The next number at random, by the generator of peers/mpool.c. */
+/* The next number at random, by the generator of peers/mpool.c. Both numbers have at most 32 bits: a division of 64 bits
+ * takes a processor several times as long, which would count as time of each pool. rustc looks for that itself. */
 static uint64_t draw(uint64_t *state, uint64_t below)
 {
     *state = *state * 6364136223846793005u + 1442695040888963407u;
-    return (*state >> 33) % below;
+    return (uint32_t)(*state >> 33) % (uint32_t)below;
 }
 
 /* Operates so often with numbers below the end, before anything is measured. */

@@ -29,7 +29,8 @@ pub struct Config {
     pub correlated: u64,
     /// The retained information period in ticks: 0 to 2^62. The references of a page in no frame
     /// are kept so long after its newest one, and then until the next
-    /// [`purge`](crate::Pool::purge).
+    /// [`purge`](crate::Pool::purge). A [`Pager`](crate::Pager) purges by itself after each 16 fixes;
+    /// of a [`Pool`](crate::Pool) the engine does. Each page that is remembered takes some 200 bytes.
     pub retained: u64,
     /// The K of LRU-K: 1 to 16. 1 is LRU.
     pub k: u8,
@@ -38,8 +39,8 @@ pub struct Config {
 }
 
 impl Config {
-    /// One client, K 2, a correlated period of an eighth of the frames, and a retained period and
-    /// room without end.
+    /// One client, K 2, a correlated period of an eighth of the frames, a retained period of eight
+    /// times the frames, and room without end.
     ///
     /// With K 2 and no correlated period, a page that was referenced once is evicted first, often
     /// before its log record is durable. An eighth of the frames suits a tick at each fix. An
@@ -51,7 +52,7 @@ impl Config {
             frames,
             room: 1 << 61,
             correlated: frames as u64 / 8,
-            retained: 1 << 62,
+            retained: (frames as u64).saturating_mul(8),
             k: 2,
             clients: 1,
         }

@@ -3,7 +3,7 @@ use crate::sys;
 use std::fmt;
 use std::result;
 
-/// A refusal of a [`Pool`](crate::Pool). It changes nothing, except that 11, 12 and 13 count as
+/// A refusal of a [`Pool`](crate::Pool). It changes nothing, except that 11, 12, 13 and 25 count as
 /// calls. 17, 18 and 19 tell of the device, and come of a pager's faults alone.
 ///
 /// It is the error of calls that do not use the device: those of a `Pool` and of guards, and those
@@ -49,6 +49,8 @@ pub enum Error {
     ClockFull,
     /// 22: out of memory.
     OutOfMemory,
+    /// 25: a pass of the page is out.
+    PagePinned,
     /// 41: no client has this number here.
     BadClient,
     /// 45: the file has no such page, or the bytes are not within the page, or the buffer does not
@@ -83,7 +85,7 @@ pub enum Error {
 pub type Result<T, E = Error> = result::Result<T, E>;
 
 /// Each refusal of the library that has a number of its own.
-static NUMBERED: [Error; 18] = [
+static NUMBERED: [Error; 19] = [
     Error::BadGeometry,
     Error::BadSettings,
     Error::NoVictim,
@@ -97,6 +99,7 @@ static NUMBERED: [Error; 18] = [
     Error::TrailFull,
     Error::ClockFull,
     Error::OutOfMemory,
+    Error::PagePinned,
     Error::BadClient,
     Error::OutOfPage,
     Error::NoCore,
@@ -122,6 +125,7 @@ impl Error {
             Error::TrailFull => 20,
             Error::ClockFull => 21,
             Error::OutOfMemory => 22,
+            Error::PagePinned => 25,
             Error::BadClient => 41,
             Error::OutOfPage => 45,
             Error::NoCore => 50,

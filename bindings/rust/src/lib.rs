@@ -105,6 +105,7 @@
 
 mod config;
 mod error;
+mod image;
 mod lent;
 mod page;
 mod pager;
@@ -120,7 +121,10 @@ pub use lent::PageBytes;
 pub use page::{PageGuard, Pass, ReadTicket, WriteTicket};
 pub use pager::{PageIo, Pager, PagerError, ReadFault};
 pub use pool::{Fixed, Flushed, Pool, PoolStats, Saved, Totals, UnsavedPage};
-pub use shared::{Cleaner, PageMut, PagePin, PageRef, SharedConfig, SharedPager, Stats};
+pub use shared::{
+    Cleaner, OwnedMut, OwnedPin, OwnedRef, PageMut, PagePin, PageRef, Readers, SharedConfig,
+    SharedPager, Stats,
+};
 
 /// The version of the library below, as major * 10,000 + minor * 100 + patch.
 pub fn version() -> u32 {

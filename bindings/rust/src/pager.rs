@@ -1,4 +1,5 @@
 //! `PageIo`, an engine's device and log, and `Pager`, a pool that calls them for one thread.
+use crate::image::Image;
 use crate::{
     Config, Error, Fixed, Flushed, PageGuard, Pool, PoolStats, ReadTicket, Refused, Result,
     UnsavedPage, WriteTicket,
@@ -19,6 +20,10 @@ use std::{error, fmt, io};
 ///
 /// A pager may also have its device behind a `&`, a `Box` or an `Arc`, so that the engine keeps the
 /// device, or chooses one at run time by `Box<dyn PageIo>`.
+///
+/// Each image, and the first of a row of images, begins at a multiple of 4,096. So a file that was opened
+/// with `O_DIRECT` can be read into it and written from it, without a copy, where the page size is a
+/// multiple of its sectors.
 pub trait PageIo {
     /// Reads the page into the image, which has the page size.
     ///
@@ -39,6 +44,42 @@ pub trait PageIo {
     /// # Errors
     /// After an error the page is still unsaved, in its frame.
     fn write_page(&self, page: u64, image: &mut [u8], lsn: u64) -> io::Result<()>;
+
+    /// The most pages that one call of [`read_pages`](PageIo::read_pages) or
+    /// [`write_pages`](PageIo::write_pages) gets: 1 where the engine does not say more, and these are not
+    /// called then. Of more than 256 a pager takes 256. It is the same each time: threads that read ahead ask
+    /// for it once.
+    fn most_pages(&self) -> usize {
+        1
+    }
+
+    /// Reads pages side by side, which begin with `first`. Their images are one after the other, as
+    /// many as `count`. [`SharedPager::prefetch`](crate::SharedPager::prefetch) calls it for two pages or
+    /// more. Else it is as [`read_page`](PageIo::read_page), which it calls for each page where the
+    /// engine has no better way.
+    ///
+    /// # Errors
+    /// After an error none of the pages is in the pool. They are read one by one when they are asked
+    /// for.
+    fn read_pages(&self, first: u64, count: usize, images: &mut [u8]) -> Result<(), ReadFault> {
+        let size = images.len() / count;
+        let mut each = (first..).zip(images.chunks_exact_mut(size));
+        each.try_for_each(|(page, image)| self.read_page(page, image))
+    }
+
+    /// Writes the images of pages side by side, which begin with `first`, to their places. They are one
+    /// after the other, and `lsns` has the page LSN of each: the log is durable up to all of them. A
+    /// [`SharedPager`](crate::SharedPager) calls it where it writes many pages out, for two or more. Else it
+    /// is as [`write_page`](PageIo::write_page), which it calls for each page where the engine has no
+    /// better way.
+    ///
+    /// # Errors
+    /// After an error each of the pages is still unsaved, and is written once more by itself.
+    fn write_pages(&self, first: u64, images: &mut [u8], lsns: &[u64]) -> io::Result<()> {
+        let size = images.len() / lsns.len();
+        let mut each = (first..).zip(images.chunks_exact_mut(size)).zip(lsns);
+        each.try_for_each(|((page, image), lsn)| self.write_page(page, image, *lsn))
+    }
 
     /// Makes the log durable at least up to this LSN.
     ///
@@ -65,6 +106,23 @@ macro_rules! page_io_of {
 
             fn write_page(&self, page: u64, image: &mut [u8], lsn: u64) -> io::Result<()> {
                 (**self).write_page(page, image, lsn)
+            }
+
+            fn most_pages(&self) -> usize {
+                (**self).most_pages()
+            }
+
+            fn read_pages(
+                &self,
+                first: u64,
+                count: usize,
+                images: &mut [u8],
+            ) -> Result<(), ReadFault> {
+                (**self).read_pages(first, count, images)
+            }
+
+            fn write_pages(&self, first: u64, images: &mut [u8], lsns: &[u64]) -> io::Result<()> {
+                (**self).write_pages(first, images, lsns)
             }
 
             fn make_log_durable(&self, lsn: u64) -> io::Result<()> {
@@ -105,7 +163,8 @@ impl From<io::Error> for ReadFault {
 pub enum PagerError {
     /// The pool refused the call.
     Refused(Error),
-    /// The pool refused to write this page out, when all unsaved pages were to be written out.
+    /// The pool refused what was to be done with this page, as one of several: to write it out, or to
+    /// drop it.
     RefusedPage {
         /// The page.
         page: u64,
@@ -217,8 +276,9 @@ impl error::Error for PagerError {
 /// A pool with its device and log: it reads and writes pages where a call needs that, and first
 /// makes the log durable where the write-ahead rule requires it.
 ///
-/// Its clock moves on by one at each fix, so the periods of [`Config`] count fixes. Where it is
-/// dropped, pages that were not written out are lost.
+/// Its clock moves on by one at each fix, so the periods of [`Config`] count fixes. After each 16 it
+/// forgets what is older than the retained period, as [`Pool::purge`] does, which the pool's room
+/// counts. Where it is dropped, pages that were not written out are lost.
 ///
 /// Several threads can take turns with it, behind a mutex. Then no thread can use the pool while
 /// another reads or writes; an engine that needs that calls a [`Pool`] itself.
@@ -227,8 +287,13 @@ pub struct Pager<F> {
     io: F,
     /// A buffer of the page size, for the next call. A call that comes while another uses it makes
     /// its own.
-    spare: Cell<Vec<u8>>,
+    spare: Cell<Image>,
+    /// The number of fixes since the last purge.
+    fixes: Cell<u32>,
 }
+
+/// After so many fixes a pager forgets what is too old, so that no purge takes long.
+const PURGE_FIXES: u32 = 16;
 
 impl<F: PageIo> Pager<F> {
     /// Makes a pager with empty frames.
@@ -240,6 +305,7 @@ impl<F: PageIo> Pager<F> {
             pool: Pool::new(config)?,
             io,
             spare: Cell::default(),
+            fixes: Cell::default(),
         })
     }
 
@@ -291,6 +357,14 @@ impl<F: PageIo> Pager<F> {
     /// with [`OutOfMemory`](Error::OutOfMemory) where there is none for a buffer of the page size.
     pub fn flush(&self, client: u8, page: u64) -> Result<(), PagerError> {
         self.with_image(|image| self.flush_by(client, page, image, 0))
+    }
+
+    /// Has a page leave its frame without being written out, as [`Pool::discard`] does.
+    ///
+    /// # Errors
+    /// [`PagerError::Refused`] for those of [`Pool::discard`].
+    pub fn discard(&self, client: u8, page: u64) -> Result<bool, PagerError> {
+        Ok(self.pool.discard(client, page)?)
     }
 
     /// Writes out each page that is unsaved, in the order of the file. It makes the log durable once
@@ -349,11 +423,10 @@ impl<F: PageIo> Pager<F> {
         &self,
         work: impl FnOnce(&mut [u8]) -> Result<T, PagerError>,
     ) -> Result<T, PagerError> {
-        let (mut image, size) = (self.spare.take(), self.pool.config().page_size);
-        if image.try_reserve_exact(size - image.len()).is_err() {
-            return Err(Error::OutOfMemory.into());
+        let mut image = self.spare.take();
+        if image.is_empty() {
+            image = Image::zeros(self.pool.config().page_size)?;
         }
-        image.resize(size, 0);
         let done = work(&mut image);
         self.spare.set(image);
         done
@@ -367,6 +440,7 @@ impl<F: PageIo> Pager<F> {
         is_new: bool,
     ) -> Result<PageGuard<'_>, PagerError> {
         self.pool.tick(client, 1)?;
+        self.purge_at_times(client);
         loop {
             match self.pool.fix(client, page, image) {
                 Ok(Fixed::Hit(guard)) => return Ok(guard),
@@ -375,6 +449,16 @@ impl<F: PageIo> Pager<F> {
                 Err(Error::NeedLog { lsn }) => self.make_log_durable(client, lsn)?,
                 Err(error) => return Err(error.into()),
             }
+        }
+    }
+
+    /// Forgets what is too old, each time after some fixes.
+    fn purge_at_times(&self, client: u8) {
+        let fixes = self.fixes.get() + 1;
+        self.fixes.set(fixes % PURGE_FIXES);
+        if fixes == PURGE_FIXES {
+            // Where it is refused, so is the fix after it.
+            let _ = self.pool.purge(client);
         }
     }
 

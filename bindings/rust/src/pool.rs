@@ -135,9 +135,11 @@ pub struct Totals {
     pub writes: u64,
     /// Reads and write-outs that failed.
     pub failed: u64,
-    /// Calls that were refused with [`NoVictim`](Error::NoVictim), [`NeedLog`](Error::NeedLog) or
-    /// [`Busy`](Error::Busy).
+    /// Calls that were refused with [`NoVictim`](Error::NoVictim), [`NeedLog`](Error::NeedLog),
+    /// [`Busy`](Error::Busy) or [`PagePinned`](Error::PagePinned).
     pub refused: u64,
+    /// Pages that left a frame by [`Pool::discard`].
+    pub discards: u64,
 }
 
 /// The counters of a [`Pool`]: the counts since it was made, and the present numbers of pages of
@@ -179,6 +181,7 @@ impl Totals {
             (&mut self.writes, others.writes),
             (&mut self.failed, others.failed),
             (&mut self.refused, others.refused),
+            (&mut self.discards, others.discards),
         ];
         for (sum, count) in of_others {
             *sum = sum.saturating_add(count);
@@ -338,6 +341,24 @@ impl Pool {
             // A flush that was not refused has one of three kinds.
             _ => Flushed::Absent,
         })
+    }
+
+    /// Has a page leave its frame without being written out, for one that is of no use any longer, as
+    /// of a file that is truncated. Its writes that no good write-out began after are lost, and its
+    /// references are forgotten. It waits for no log. It returns true if the page was in a frame.
+    ///
+    /// # Errors
+    /// The first that has cause:
+    /// [`BadClient`](Error::BadClient); [`OutOfPage`](Error::OutOfPage);
+    /// [`TrailFull`](Error::TrailFull);
+    /// [`Busy`](Error::Busy) while the page is being read or written out;
+    /// [`PagePinned`](Error::PagePinned) while a pass of it is out.
+    pub fn discard(&self, client: u8, page: u64) -> Result<bool> {
+        let mut was_resident = 0;
+        // SAFETY: the handle is free, and the flag may be written to.
+        let number = unsafe { sys::hz_discard(self.core(), client, page, &mut was_resident) };
+        Error::check(number)?;
+        Ok(was_resident != 0)
     }
 
     /// Ends a read: the page is in a frame, and pinned. The image has the page size.
@@ -529,16 +550,28 @@ impl Pool {
     /// [`TrailFull`](Error::TrailFull).
     #[inline]
     pub fn put(&self, pass: &Pass, offset: usize, bytes: &[u8], lsn: u64) -> Result<()> {
-        let grant = self.own_pass(pass)?;
-        if self.lent.has(grant.page) {
+        self.own_pass(pass)?;
+        if self.lent.has(pass.page()) {
             return Err(Error::Lent);
         }
-        self.apart(bytes, |bytes| {
-            let (from, len) = (bytes.as_ptr(), bytes.len());
-            // SAFETY: the handle is free, the pass a grant, and `bytes` has this length. None of
-            // the page is lent, so no reference leads to what is written.
-            Error::check(unsafe { sys::hz_write(self.core(), &grant, offset, from, len, lsn) })
-        })
+        self.apart(bytes, |bytes| self.put_apart(pass, offset, bytes, lsn))
+    }
+
+    /// The same with bytes that are no memory of the library, for a page of which no reference leads to
+    /// what is written.
+    #[inline]
+    pub(crate) fn put_apart(
+        &self,
+        pass: &Pass,
+        offset: usize,
+        bytes: &[u8],
+        lsn: u64,
+    ) -> Result<()> {
+        let grant = self.own_pass(pass)?;
+        let (from, len) = (bytes.as_ptr(), bytes.len());
+        // SAFETY: the handle is free, the pass a grant, and `bytes` has this length. No reference leads
+        // to what is written: none of the page is lent, or who calls has it alone.
+        Error::check(unsafe { sys::hz_write(self.core(), &grant, offset, from, len, lsn) })
     }
 
     /// Moves the clock on by `n`. A page can be evicted once the clock has moved by more than the
@@ -655,6 +688,7 @@ impl Pool {
                 writes: out.writes,
                 failed: out.failed,
                 refused: out.refused,
+                discards: out.discards,
             },
             resident: out.resident,
             pinned: out.pinned,

@@ -78,6 +78,7 @@ pub(crate) struct hz_stats {
     pub(crate) unsaved: usize,
     pub(crate) loading: usize,
     pub(crate) writing: usize,
+    pub(crate) discards: u64,
 }
 
 // Each call except `hz_text` and `hz_version` requires: `core` is zero, or as these calls left it,
@@ -140,6 +141,12 @@ unsafe extern "C" {
         len: usize,
         out: *mut hz_fixed,
     ) -> u16;
+    pub(crate) fn hz_discard(
+        core: *mut hz_core,
+        client: u8,
+        page: u64,
+        was_resident: *mut u8,
+    ) -> u16;
     pub(crate) fn hz_purge(core: *mut hz_core, client: u8, count: *mut u64) -> u16;
     pub(crate) fn hz_page_lsn(core: *mut hz_core, pass: *const hz_grant, lsn: *mut u64) -> u16;
     pub(crate) fn hz_next_unsaved(core: *mut hz_core, from: u64, out: *mut hz_unsaved) -> u16;
@@ -190,7 +197,7 @@ pub(crate) mod tests {
             .chain(lines_of!(hz_unsaved: page lsn first_lsn has_page))
             .chain(lines_of!(
                 hz_stats: hits faults evictions writes failed refused
-                          resident pinned unsaved loading writing
+                          resident pinned unsaved loading writing discards
             ))
             .collect();
         let there: Vec<&str> = LAYOUT

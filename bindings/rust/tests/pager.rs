@@ -130,6 +130,7 @@ fn log_goes_before_the_page_that_makes_way() {
         writes: 1,
         failed: 0,
         refused: 1,
+        discards: 0,
     };
     assert_eq!(pager.pool().totals(), totals);
     assert_eq!(pager.into_io().pages.borrow()[1][0], 9);
@@ -536,6 +537,21 @@ fn counts(k: u8, correlated: u64, references: &[u64]) -> (u64, u64, u64) {
 
 // The counts are reckoned in check/program.cases: sweep_keeps_what_came_twice, and
 // sweep_where_two_references_count_as_one.
+// Of 1,000 pages the pager remembers those of the last 32 fixes, as it forgets older ones by itself: at
+// most 16 are left for a purge.
+#[test]
+fn old_pages_are_forgotten() {
+    let config = Config::new(1_000, 16, 4);
+    assert_eq!(config.retained, 32);
+    let pager = Pager::new(&config, Memory::of(1_000)).unwrap();
+    for page in 0..1_000 {
+        drop(pager.fix(0, page).unwrap());
+    }
+    assert!(pager.pool().purge(0).unwrap() <= 16);
+    pager.pool().tick(0, 100).unwrap();
+    assert_eq!(pager.pool().purge(0), Ok(29));
+}
+
 #[test]
 fn periods_and_k_count_fixes() {
     let twice = [1, 2, 1, 2, 3, 4, 5, 6, 1, 2];

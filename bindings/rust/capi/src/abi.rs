@@ -51,6 +51,7 @@ pub struct hz_pager_fault {
 }
 
 #[repr(C)]
+#[derive(Default)]
 pub struct hz_pager_stats {
     pub hits: u64,
     pub faults: u64,
@@ -58,6 +59,7 @@ pub struct hz_pager_stats {
     pub writes: u64,
     pub failed: u64,
     pub refused: u64,
+    pub discards: u64,
     pub waits: u64,
     pub resident: usize,
     pub pinned: usize,
@@ -75,12 +77,16 @@ pub const HZ_UNKNOWN_PASS: u16 = 14;
 pub const HZ_READ_FAILED: u16 = 17;
 pub const HZ_WRITE_FAILED: u16 = 18;
 pub const HZ_WRONG_PAGE: u16 = 19;
+pub const HZ_TRAIL_FULL: u16 = 20;
+pub const HZ_CLOCK_FULL: u16 = 21;
 pub const HZ_OUT_OF_MEMORY: u16 = 22;
+pub const HZ_PAGE_PINNED: u16 = 25;
 pub const HZ_OUT_OF_PAGE: u16 = 45;
 pub const HZ_NO_CORE: u16 = 50;
 pub const HZ_HAS_CORE: u16 = 51;
 pub const HZ_NULL: u16 = 52;
 
+pub const HZ_VERSION_MISMATCH: u16 = 61;
 pub const HZ_SYNC_FAILED: u16 = 71;
 pub const HZ_DEADLOCK: u16 = 72;
 pub const HZ_NOT_EXCLUSIVE: u16 = 73;

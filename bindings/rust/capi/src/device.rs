@@ -1,6 +1,6 @@
 //! The device and log of a pager: the engine's callbacks, or a page file.
-use crate::abi::{HZ_IO_WRONG_PAGE, hz_io};
-use crate::fault;
+use crate::abi::{HZ_BAD_SETTINGS, HZ_IO_WRONG_PAGE, HZ_READ_FAILED, hz_io, hz_pager_fault};
+use crate::fault::{self, EBADF, Refusal, refusal};
 use hojzmated::{PageIo, ReadFault};
 use std::cell::{Cell, RefCell};
 use std::ffi::{c_int, c_void};
@@ -51,32 +51,38 @@ pub struct PageFile {
     head: usize,
 }
 
+/// The refusal of a file that tells nothing of itself.
+fn unread(error: io::Error) -> Refusal {
+    hz_pager_fault::of_error(HZ_READ_FAILED, &error).note()
+}
+
 /// The bytes before a page in a file of format 2: its number and its page LSN.
 const HEAD: usize = 16;
 
 impl PageFile {
-    /// None for an unknown format.
+    /// Refused for an unknown format, and for a descriptor of no open file.
     ///
     /// # Safety
-    /// The descriptor stays open as long as this is there.
-    pub unsafe fn new(fd: c_int, format: c_int) -> Option<PageFile> {
+    /// A file of the descriptor stays open as long as this is there.
+    pub unsafe fn new(fd: c_int, format: c_int) -> Result<PageFile, Refusal> {
         let head = match format {
             1 => 0,
             2 => HEAD,
-            _ => return None,
+            _ => return Err(refusal(HZ_BAD_SETTINGS)),
         };
         if fd < 0 {
-            return None;
+            return Err(unread(io::Error::from_raw_os_error(EBADF)));
         }
-        // SAFETY: the caller has it open, and this does not close it.
+        // SAFETY: this does not close it.
         let file = ManuallyDrop::new(unsafe { File::from_raw_fd(fd) });
-        Some(PageFile { file, head })
+        file.metadata().map_err(unread)?;
+        Ok(PageFile { file, head })
     }
 
     /// The number of pages that the file has. None where it does not end with a whole one.
-    pub fn pages(&self, page_size: usize) -> io::Result<Option<u64>> {
+    pub fn pages(&self, page_size: usize) -> Result<Option<u64>, Refusal> {
         let slot = (self.head + page_size).max(1) as u64;
-        let len = self.file.metadata()?.len();
+        let len = self.file.metadata().map_err(unread)?.len();
         Ok((len % slot == 0).then_some(len / slot))
     }
 
@@ -138,6 +144,12 @@ pub fn with_scratch<T>(len: usize, use_it: impl FnOnce(&mut [u8]) -> T) -> io::R
 struct Inside {
     device: *const Device,
     outer: *const Inside,
+}
+
+/// Whether this thread is in no callback at all.
+#[inline]
+pub fn is_outside() -> bool {
+    INSIDE.get().is_null()
 }
 
 /// Whether this thread is in a callback of the device.

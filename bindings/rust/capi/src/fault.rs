@@ -24,6 +24,8 @@ pub fn newest() -> hz_pager_fault {
 
 /// `EIO`, for a fault without a number of the system: the file ends within the page.
 const EIO: i32 = 5;
+/// `EBADF`: a descriptor is of no open file.
+pub const EBADF: i32 = 9;
 
 fn errno_of(error: &io::Error) -> i32 {
     error.raw_os_error().unwrap_or(EIO)
@@ -139,29 +141,38 @@ impl From<PagerError> for Refusal {
 }
 
 /// The text of a refusal, by what it means here.
-fn text_of(number: u16) -> &'static str {
+fn text_of(number: u16, has_page: bool) -> &'static str {
     match number {
         0 => "nothing was refused",
         HZ_BAD_GEOMETRY => "the number of pages or the page size is out of its limits",
         HZ_BAD_SETTINGS => "a setting is out of its limits",
         HZ_NO_VICTIM => "all pages that could make way are pinned",
         HZ_NEED_LOG => "the log could not be made durable",
+        HZ_PAGE_PINNED => "it is still fixed",
         HZ_BUSY => "a latch is not free, or a page is still fixed",
         HZ_UNKNOWN_PASS => "this thread has not fixed the page, or has given it back",
+        HZ_READ_FAILED if !has_page => "the file could not be read",
         HZ_READ_FAILED => "it could not be read",
         HZ_WRITE_FAILED => "it could not be written",
         HZ_WRONG_PAGE => "another page was found in its place, or a spoilt one",
+        HZ_TRAIL_FULL => "a part has answered as many calls as it may in all",
+        HZ_CLOCK_FULL => "the clock of a part has come to its end",
         HZ_OUT_OF_MEMORY => "out of memory",
         HZ_OUT_OF_PAGE => "the file has no such page, or the bytes are not within the page",
         HZ_NO_CORE => "the handle has no pager",
         HZ_HAS_CORE => "the handle has a pager already",
         HZ_NULL => "a pointer is null",
+        HZ_VERSION_MISMATCH => {
+            "the library was built over a core of another version, and makes no pager"
+        }
         HZ_SYNC_FAILED => "the device could not be synced",
         HZ_DEADLOCK => "the call would wait for a latch that this thread has",
         HZ_NOT_EXCLUSIVE => "the page is not under its exclusive latch",
         HZ_IN_CALLBACK => "a callback of the pager may not make this call",
-        HZ_PANICKED => "the library found a fault of its own",
-        _ => "a pool has come to the end of its calls or of its clock",
+        HZ_PANICKED => {
+            "the library found a fault of its own, or a page has 500,000 pins or latches"
+        }
+        _ => "a number that a newer core has",
     }
 }
 
@@ -170,7 +181,7 @@ impl fmt::Display for hz_pager_fault {
         if self.has_page != 0 {
             write!(f, "page {}: ", self.page)?;
         }
-        f.write_str(text_of(self.number))?;
+        f.write_str(text_of(self.number, self.has_page != 0))?;
         if self.lsn != 0 {
             write!(f, " (LSN {})", self.lsn)?;
         }
@@ -178,5 +189,34 @@ impl fmt::Display for hz_pager_fault {
             0 => Ok(()),
             error => write!(f, ": {}", io::Error::from_raw_os_error(error)),
         }
+    }
+}
+
+#[cfg(test)]
+mod tests {
+    use super::*;
+
+    /// Each refusal that a pager may answer has a text of its own, which is no text of another.
+    #[test]
+    fn texts() {
+        let abi = include_str!("abi.rs").lines();
+        let numbers =
+            abi.filter_map(|line| line.strip_prefix("pub const HZ_")?.split_once(": u16 = "));
+        let texts: Vec<_> = numbers
+            .map(|(_, number)| text_of(number.trim_end_matches(';').parse().unwrap_or(0), true))
+            .chain([text_of(0, true), text_of(999, true)])
+            .collect();
+        assert_eq!(texts.len(), 25);
+        for (place, text) in texts.iter().enumerate() {
+            assert!(!texts[..place].contains(text), "{text}");
+        }
+    }
+
+    /// The library below has another version only where it was built so.
+    #[test]
+    fn text_of_another_version() {
+        let fault = hz_pager_fault::from(Error::VersionMismatch { library: 20_304 });
+        let text = "the library was built over a core of another version, and makes no pager";
+        assert_eq!((fault.number, fault.to_string().as_str()), (61, text));
     }
 }

@@ -15,6 +15,9 @@
 
 mod abi;
 mod device;
+#[cfg(test)]
+#[allow(clippy::unwrap_used)]
+mod ends;
 mod fault;
 #[cfg(test)]
 #[allow(clippy::unwrap_used)]
@@ -22,10 +25,11 @@ mod header;
 mod held;
 
 use abi::*;
-use device::{Callbacks, Device, PageFile, is_inside, with_scratch};
+use device::{Callbacks, Device, PageFile, is_inside, is_outside, with_scratch};
 use fault::{Refusal, refusal, refusal_of, refused_at};
 use held::Guard;
-use hojzmated::{Error, SharedConfig, SharedPager};
+use hojzmated::{Error, PagePin, PagerError, SharedConfig, SharedPager};
+use std::any::Any;
 use std::ffi::{c_char, c_int};
 use std::panic::{AssertUnwindSafe, catch_unwind};
 use std::time::Duration;
@@ -42,8 +46,14 @@ fn answer(call: impl FnOnce() -> Outcome) -> u16 {
     match catch_unwind(AssertUnwindSafe(call)) {
         Ok(Ok(())) => 0,
         Ok(Err(refused)) => refused.number(),
-        Err(_) => refusal(HZ_PANICKED).number(),
+        Err(panic) => panicked(panic),
     }
+}
+
+#[cold]
+#[inline(never)]
+fn panicked(_panic: Box<dyn Any + Send>) -> u16 {
+    refusal(HZ_PANICKED).number()
 }
 
 /// What a pointer of the caller's leads to.
@@ -69,6 +79,7 @@ unsafe fn to<T>(pointer: *mut T) -> Outcome<Place<T>> {
 }
 
 /// A place that may be written to, and need not have a value.
+#[repr(transparent)]
 struct Place<T>(*mut T);
 
 impl<T> Place<T> {
@@ -198,16 +209,12 @@ pub unsafe extern "C" fn hz_pager_new_file(
     answer(|| {
         // SAFETY: as the header says.
         let (config, handle) = unsafe { (given(config)?, empty(pager)?) };
-        // SAFETY: the descriptor is open till after `hz_pager_free`.
-        let file = unsafe { PageFile::new(fd, format) };
-        let file = file.ok_or(Error::BadSettings)?;
+        // SAFETY: a file of the descriptor is open till after `hz_pager_free`.
+        let file = unsafe { PageFile::new(fd, format) }?;
         let pages = match config.pages {
-            0 => file.pages(config.page_size),
-            some => Ok(Some(some)),
+            0 => file.pages(config.page_size)?.ok_or(Error::BadGeometry)?,
+            some => some,
         };
-        let pages =
-            pages.map_err(|error| hz_pager_fault::of_error(HZ_READ_FAILED, &error).note())?;
-        let pages = pages.ok_or(Error::BadGeometry)?;
         make(&config.settings(pages), Device::File(file), handle)
     })
 }
@@ -217,6 +224,8 @@ pub unsafe extern "C" fn hz_pager_free(pager: *mut hz_pager) -> u16 {
     answer(|| {
         // SAFETY: as the header says.
         let own = unsafe { waiting_pager_of(pager) }?;
+        // A thread that ends may be about to leave the page that was pinned last.
+        let _none_ends = held::none_ends();
         if own.stats().pinned > 0 {
             return Err(refusal(HZ_BUSY));
         }
@@ -224,50 +233,20 @@ pub unsafe extern "C" fn hz_pager_free(pager: *mut hz_pager) -> u16 {
         Place(pager).put(hz_pager {
             own: ptr::null_mut(),
         });
-        // SAFETY: it is that of `make`. No page is fixed, and no other thread is in a call.
+        // SAFETY: it is that of `make`. No page is fixed, no thread gives pages back at its end, and
+        // no other thread is in a call.
         drop(unsafe { Box::from_raw(own) });
         Ok(())
     })
-}
-
-/// Fixes a page as `how` says.
-#[inline]
-fn fix(pager: &'static Pager, page: u64, how: u32) -> Outcome<hz_ref> {
-    let at_page = |error| refused_at(page, error);
-    match how {
-        HZ_SHARED => {
-            let guard = Guard::Shared(pager.read(page).map_err(at_page)?);
-            held::keep(guard, pager, page)
-        }
-        HZ_EXCLUSIVE => {
-            let guard = Guard::Exclusive(pager.write(page).map_err(at_page)?);
-            held::keep(guard, pager, page)
-        }
-        _ => {
-            let guard = tried(pager, page, how)?;
-            held::keep(guard, pager, page)
-        }
-    }
-}
-
-/// Fixes a page otherwise.
-#[inline(never)]
-fn tried(pager: &'static Pager, page: u64, how: u32) -> Outcome<Guard> {
-    let fixed = match how {
-        HZ_PINNED => pager.pin(page).map(|it| Some(Guard::Pinned(it))),
-        TRY_SHARED => pager.try_read(page).map(|it| it.map(Guard::Shared)),
-        TRY_EXCLUSIVE => pager.try_write(page).map(|it| it.map(Guard::Exclusive)),
-        TRY_PINNED => pager.try_pin(page).map(|it| Some(Guard::Pinned(it))),
-        _ => Err(Error::BadSettings.into()),
-    };
-    let fixed = fixed.map_err(|error| refused_at(page, error))?;
-    fixed.ok_or_else(|| refusal_of(HZ_BUSY, page))
 }
 
 const TRY_SHARED: u32 = HZ_SHARED | HZ_TRY;
 const TRY_EXCLUSIVE: u32 = HZ_EXCLUSIVE | HZ_TRY;
 const TRY_PINNED: u32 = HZ_PINNED | HZ_TRY;
 
+/// Fixes a page. What most calls come to, a latch that is free of a page that was used a short while
+/// ago, is done here, where nothing panics or waits; the rest by functions of their own, so that this
+/// one keeps what it has in registers.
 #[unsafe(no_mangle)]
 pub unsafe extern "C" fn hz_pager_fix(
     pager: *const hz_pager,
@@ -275,15 +254,108 @@ pub unsafe extern "C" fn hz_pager_fix(
     how: u32,
     out: *mut hz_ref,
 ) -> u16 {
-    answer(|| {
+    // SAFETY: as the header says.
+    let Some((own, place)) = (unsafe { ready(pager, out) }) else {
         // SAFETY: as the header says.
-        let (out, pager) = unsafe { (to(out)?, waiting_pager_of(pager)?) };
+        return unsafe { fix_otherwise(pager, page, how, out) };
+    };
+    match how {
+        HZ_SHARED => match own.read_at_once(page) {
+            Ok(latched) => held::keep_at_once(latched, own, page, place),
+            Err(pin) => read_slowly(own, page, pin, place),
+        },
+        HZ_EXCLUSIVE => match own.write_at_once(page) {
+            Some(latched) => held::keep_at_once(latched, own, page, place),
+            None => write_slowly(own, page, place),
+        },
+        // SAFETY: as the header says.
+        _ => unsafe { fix_otherwise(pager, page, how, out) },
+    }
+}
+
+/// The pager of a handle and the place for a page, where nothing is in the way of a fix: this thread is
+/// in no callback, and has no latch and room for one more page.
+///
+/// # Safety
+/// Those of [`pager_of`] and [`to`].
+#[inline(always)]
+unsafe fn ready(
+    handle: *const hz_pager,
+    out: *mut hz_ref,
+) -> Option<(&'static Pager, Place<hz_ref>)> {
+    if out.is_null() || !is_outside() || !held::is_ready() {
+        return None;
+    }
+    // SAFETY: the caller says so.
+    let own = unsafe { handle.as_ref()?.own.as_ref()? };
+    Some((own, Place(out)))
+}
+
+// It is of C so that it never unwinds: then it can be called in the place of its caller.
+#[allow(improper_ctypes_definitions)]
+#[cold]
+#[inline(never)]
+extern "C" fn read_slowly(
+    own: &'static Pager,
+    page: u64,
+    pin: Option<PagePin<'static>>,
+    out: Place<hz_ref>,
+) -> u16 {
+    answer(|| kept(own.read_slowly(page, pin), own, page, out))
+}
+
+#[cold]
+#[inline(never)]
+extern "C" fn write_slowly(own: &'static Pager, page: u64, out: Place<hz_ref>) -> u16 {
+    answer(|| kept(own.write_slowly(page), own, page, out))
+}
+
+/// Keeps the guard of a page, if it was had.
+fn kept<G: Guard>(
+    fixed: Result<G, PagerError>,
+    own: &Pager,
+    page: u64,
+    out: Place<hz_ref>,
+) -> Outcome {
+    match fixed {
+        Ok(guard) => held::keep(guard, own, page, out),
+        Err(error) => Err(refused_at(page, error)),
+    }
+}
+
+/// Fixes a page of which nothing is known yet.
+///
+/// # Safety
+/// As the header says.
+#[inline(never)]
+unsafe extern "C" fn fix_otherwise(
+    pager: *const hz_pager,
+    page: u64,
+    how: u32,
+    out: *mut hz_ref,
+) -> u16 {
+    answer(|| {
+        // SAFETY: the caller says so.
+        let (out, own) = unsafe { (to(out)?, waiting_pager_of(pager)?) };
         if how | HZ_TRY != TRY_PINNED {
-            held::check_latch(pager, page)?;
+            held::check_latch(own, page)?;
         }
-        out.put(fix(pager, page, how)?);
-        Ok(())
+        held::make_room()?;
+        match how {
+            HZ_SHARED => kept(own.read(page), own, page, out),
+            HZ_EXCLUSIVE => kept(own.write(page), own, page, out),
+            HZ_PINNED => kept(own.pin(page), own, page, out),
+            TRY_PINNED => kept(own.try_pin(page), own, page, out),
+            TRY_SHARED => kept(had(own.try_read(page)), own, page, out),
+            TRY_EXCLUSIVE => kept(had(own.try_write(page)), own, page, out),
+            _ => Err(refused_at(page, Error::BadSettings)),
+        }
     })
+}
+
+/// A latch, or that it is not free.
+fn had<G>(tried: Result<Option<G>, PagerError>) -> Result<G, PagerError> {
+    tried.and_then(|it| it.ok_or(Error::Busy.into()))
 }
 
 #[unsafe(no_mangle)]
@@ -296,10 +368,8 @@ pub unsafe extern "C" fn hz_pager_new_page(
         // SAFETY: as the header says.
         let (out, pager) = unsafe { (to(out)?, waiting_pager_of(pager)?) };
         held::check_latch(pager, page)?;
-        let made = pager.new_page(page);
-        let made = made.map_err(|error| refused_at(page, error))?;
-        out.put(held::keep(Guard::Exclusive(made), pager, page)?);
-        Ok(())
+        held::make_room()?;
+        kept(pager.new_page(page), pager, page, out)
     })
 }
 
@@ -342,6 +412,8 @@ pub unsafe extern "C" fn hz_pager_put(
 }
 
 /// Puts bytes of the page itself, from a copy.
+#[cold]
+#[inline(never)]
 fn put_own(
     page: &mut hojzmated::PageMut<'static>,
     offset: usize,
@@ -386,6 +458,21 @@ pub unsafe extern "C" fn hz_pager_flush(pager: *const hz_pager, page: u64) -> u1
         held::check_exclusive(pager, Some(page))?;
         let flushed = pager.flush(page);
         flushed.map_err(|error| refused_at(page, error))
+    })
+}
+
+#[unsafe(no_mangle)]
+pub unsafe extern "C" fn hz_pager_discard(
+    pager: *const hz_pager,
+    first: u64,
+    count: u64,
+    resident: *mut u64,
+) -> u16 {
+    answer(|| {
+        // SAFETY: as the header says.
+        let (resident, pager) = unsafe { (to(resident)?, waiting_pager_of(pager)?) };
+        resident.put(pager.discard_from(first, count)?);
+        Ok(())
     })
 }
 
@@ -475,6 +562,7 @@ pub unsafe extern "C" fn hz_pager_stats_of(
             writes: stats.totals.writes,
             failed: stats.totals.failed,
             refused: stats.totals.refused,
+            discards: stats.totals.discards,
             waits: stats.waits,
             resident: stats.resident,
             pinned: stats.pinned,

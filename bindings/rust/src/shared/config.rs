@@ -1,5 +1,6 @@
 //! `SharedConfig`: the settings of a shared pager, and how it is divided into parts.
 use crate::{Config, Error, Result};
+use std::ops::Range;
 use std::thread;
 use std::time::Duration;
 
@@ -44,11 +45,28 @@ pub struct SharedConfig {
     /// is pinned again without one: see [`SharedPager`](crate::SharedPager#what-counts-as-a-reference).
     pub tells_each_pin: bool,
     /// The retained information period in fixes: 0 to 2^62. The references of a page in no frame
-    /// are kept so long after its newest one, and then until the next
-    /// [`purge`](crate::SharedPager::purge). Each part counts as with `correlated`.
+    /// are kept so long after its newest one, and up to 16 fixes longer. Each part counts as with
+    /// `correlated`.
+    ///
+    /// A page that comes again within this period is known by LRU-K to have come before. So it should be
+    /// longer than the pages to keep are apart, and shorter than the time from one scan of many pages
+    /// to the next: else the second scan is each page's second reference, and pushes others out. 2^62
+    /// is without end. Each page that is remembered takes some 200 bytes, so eight times the frames take
+    /// up to 1,600 bytes for each frame, where no page is found in one: see
+    /// [`Stats::remembered`](crate::Stats::remembered).
     pub retained: u64,
     /// The K of LRU-K: 1 to 16. 1 is LRU.
     pub k: u8,
+    /// The numbers of temporary pages, such as those of a sort: none where the range is empty. They go
+    /// out only to make way for others, or by [`flush`](crate::SharedPager::flush) and
+    /// [`flush_pages`](crate::SharedPager::flush_pages), and wait for no log: the LSN of a put counts as 0.
+    /// A checkpoint, [`clean`](crate::SharedPager::clean), [`unsaved`](crate::SharedPager::unsaved),
+    /// [`flush_before`](crate::SharedPager::flush_before) and [`redo_from`](crate::SharedPager::redo_from)
+    /// leave them alone. [`Stats::unsaved`](crate::Stats::unsaved) counts them.
+    ///
+    /// After a crash their bytes on the device mean nothing: begin each by
+    /// [`new_page`](crate::SharedPager::new_page), and put all of its bytes that are looked at.
+    pub temporary: Range<u64>,
     /// The time for which a call waits for another thread to unpin a page, where all possible
     /// victims are pinned. After that it is refused with [`Error::NoVictim`].
     pub pin_wait: Duration,
@@ -71,8 +89,8 @@ fn power_below(number: usize) -> usize {
 }
 
 impl SharedConfig {
-    /// K 2, a correlated period of an eighth of the frames, a retained period without end, and ten
-    /// seconds of waiting for a pin. The parts are 16 for each processor, but at most 64 and one
+    /// K 2, a correlated period of an eighth of the frames, a retained period of eight times the frames,
+    /// and ten seconds of waiting for a pin. The parts are 16 for each processor, but at most 64 and one
     /// for each 64 frames, a power of two; and at least as many as the pages and frames need.
     pub fn new(pages: u64, page_size: usize, frames: usize) -> SharedConfig {
         let processors = thread::available_parallelism().map_or(1, usize::from);
@@ -100,8 +118,9 @@ impl SharedConfig {
             parts,
             correlated: frames as u64 / 8,
             tells_each_pin: false,
-            retained: 1 << 62,
+            retained: (frames as u64).saturating_mul(8),
             k: 2,
+            temporary: 0..0,
             pin_wait: Duration::from_secs(10),
         }
     }

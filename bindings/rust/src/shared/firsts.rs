@@ -4,21 +4,36 @@ use crate::Result;
 
 /// For each page of a part, by its seat, the least LSNs of its writes that have a log record.
 ///
-/// The pool tells the least LSN of all writes, also of those with LSN 0, which have no record. So
+/// The pool tells the least LSN of all writes, also of those without a record, of LSN 0 or another. So
 /// this is used only while there is such a write.
-pub(super) struct Firsts(Vec<First>);
+pub(super) struct Firsts {
+    of_seats: Vec<First>,
+    /// The seats whose pages have an unsaved write with an LSN and no record.
+    unlogged: usize,
+}
 
+/// What is known of a page.
 #[derive(Clone, Copy, Default)]
-struct First {
+pub(super) struct First {
     /// Of the writes that are in no image so far. Here and below 0 stands for none.
     waiting: u64,
     /// Of the writes in the image that is being written out.
     going_out: u64,
     /// Whether one is.
     is_going_out: bool,
+    /// Whether a write that is in no image so far has an LSN and no record, and one in that image.
+    is_unlogged: bool,
+    sends_unlogged: bool,
+}
+
+impl First {
+    fn has_unlogged(&self) -> bool {
+        self.is_unlogged || self.sends_unlogged
+    }
 }
 
 /// Returns the lesser of two LSNs, where 0 stands for none.
+#[inline]
 fn least(one: u64, other: u64) -> u64 {
     if one == 0 || other == 0 {
         one.max(other)
@@ -29,46 +44,87 @@ fn least(one: u64, other: u64) -> u64 {
 
 impl Firsts {
     pub(super) fn new(seats: usize) -> Result<Firsts> {
-        Ok(Firsts(filled(seats)?))
+        Ok(Firsts {
+            of_seats: filled(seats)?,
+            unlogged: 0,
+        })
     }
 
+    #[inline]
     pub(super) fn write(&mut self, seat: usize, lsn: u64) {
-        let first = &mut self.0[seat];
+        let first = &mut self.of_seats[seat];
         first.waiting = least(first.waiting, lsn);
+    }
+
+    /// What is known of a seat's page.
+    pub(super) fn of_seat(&self, seat: usize) -> First {
+        self.of_seats[seat]
+    }
+
+    /// Notes that what was written since had no record.
+    pub(super) fn unlog(&mut self, seat: usize, before: First) {
+        self.of_seats[seat].waiting = before.waiting;
+        self.change(seat, |first| first.is_unlogged = true);
+    }
+
+    /// Whether some unsaved write has an LSN and no record.
+    pub(super) fn has_unlogged(&self) -> bool {
+        self.unlogged > 0
+    }
+
+    /// Changes what is known of a page, and counts those with such a write.
+    fn change(&mut self, seat: usize, change: impl FnOnce(&mut First)) {
+        let first = &mut self.of_seats[seat];
+        self.unlogged -= usize::from(first.has_unlogged());
+        change(first);
+        self.unlogged += usize::from(first.has_unlogged());
     }
 
     /// Notes that an image of the page is being written out.
     pub(super) fn go_out(&mut self, seat: usize) {
-        let first = &mut self.0[seat];
-        first.going_out = first.waiting;
-        first.waiting = 0;
-        first.is_going_out = true;
+        self.change(seat, |first| {
+            first.going_out = first.waiting;
+            first.waiting = 0;
+            first.is_going_out = true;
+            first.sends_unlogged = first.is_unlogged;
+            first.is_unlogged = false;
+        });
     }
 
     /// Notes that the image is on the device.
     pub(super) fn arrive(&mut self, seat: usize) {
-        let first = &mut self.0[seat];
-        first.going_out = 0;
-        first.is_going_out = false;
+        self.change(seat, |first| {
+            first.going_out = 0;
+            first.is_going_out = false;
+            first.sends_unlogged = false;
+        });
     }
 
     /// Notes that the image is not on the device.
     pub(super) fn come_back(&mut self, seat: usize) {
-        let first = &mut self.0[seat];
-        first.waiting = least(first.waiting, first.going_out);
-        first.going_out = 0;
-        first.is_going_out = false;
+        self.change(seat, |first| {
+            first.waiting = least(first.waiting, first.going_out);
+            first.going_out = 0;
+            first.is_going_out = false;
+            first.is_unlogged |= first.sends_unlogged;
+            first.sends_unlogged = false;
+        });
+    }
+
+    /// Notes that the page left its frame unwritten.
+    pub(super) fn leave(&mut self, seat: usize) {
+        self.change(seat, |first| *first = First::default());
     }
 
     /// Iterates over the seats of pages that are being written out.
     pub(super) fn going_out(&self) -> impl Iterator<Item = usize> {
-        let of_seats = self.0.iter().enumerate();
+        let of_seats = self.of_seats.iter().enumerate();
         of_seats.filter_map(|(seat, first)| first.is_going_out.then_some(seat))
     }
 
     /// Returns the least LSN of a write with a record that is in no image on the device.
     pub(super) fn of(&self, seat: usize) -> Option<u64> {
-        let first = &self.0[seat];
+        let first = &self.of_seats[seat];
         let lsn = least(first.waiting, first.going_out);
         (lsn != 0).then_some(lsn)
     }
@@ -101,6 +157,31 @@ mod tests {
         assert_eq!(firsts.of(0), Some(12));
         firsts.arrive(0);
         assert_eq!(firsts.of(0), None);
+        Ok(())
+    }
+
+    // A write without a record changes no least LSN, and is known until an image with it is on the
+    // device.
+    #[test]
+    fn writes_without_a_record() -> Result<()> {
+        let mut firsts = Firsts::new(2)?;
+        firsts.write(0, 7);
+        let before = firsts.of_seat(0);
+        firsts.write(0, 3);
+        firsts.unlog(0, before);
+        assert_eq!((firsts.of(0), firsts.has_unlogged()), (Some(7), true));
+        firsts.go_out(0);
+        assert!(firsts.has_unlogged());
+        firsts.come_back(0);
+        assert!(firsts.has_unlogged());
+        firsts.go_out(0);
+        let before = firsts.of_seat(0);
+        firsts.unlog(0, before);
+        firsts.arrive(0);
+        assert_eq!((firsts.of(0), firsts.has_unlogged()), (None, true));
+        firsts.go_out(0);
+        firsts.arrive(0);
+        assert!(!firsts.has_unlogged());
         Ok(())
     }
 }

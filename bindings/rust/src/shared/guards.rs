@@ -2,10 +2,11 @@
 use super::part::Part;
 use super::seats::Seat;
 use super::word::{PIN, READER, WRITER};
-use crate::Result;
+use crate::{Error, Result};
+use std::cell::Cell;
 use std::fmt;
 use std::marker::PhantomData;
-use std::ops::Deref;
+use std::ops::{Bound, Deref, Range, RangeBounds};
 use std::slice;
 use std::sync::RwLockReadGuard;
 
@@ -53,6 +54,14 @@ impl<'a, const KIND: u64> Share<'a, KIND> {
 
     fn page(&self) -> u64 {
         self.part.in_file(self.seat.page())
+    }
+
+    /// The greatest LSN of the page's writes since it was read into its frame, or 0.
+    fn lsn(&self) -> u64 {
+        let state = self.part.lock();
+        let pass = state.pool.pass_of(self.seat.page(), self.seat.serial());
+        // It is refused for a pass that is not out alone.
+        state.pool.page_lsn(&pass).unwrap_or_default()
     }
 
     /// The bytes of the page.
@@ -193,6 +202,13 @@ impl<'a> PageRef<'a> {
     pub fn page(&self) -> u64 {
         self.0.page()
     }
+
+    /// The page LSN: the greatest LSN of the writes to the page since it was read into its frame. It is
+    /// 0 where there was none: then what [`PageIo::write_page`](crate::PageIo::write_page) stamped into
+    /// the image is the newest. It takes the part's lock.
+    pub fn lsn(&self) -> u64 {
+        self.0.lsn()
+    }
 }
 
 impl Deref for PageRef<'_> {
@@ -223,6 +239,11 @@ impl<'a> PageMut<'a> {
         self.0.page()
     }
 
+    /// The page LSN, as [`PageRef::lsn`] tells it, with all that was put so far.
+    pub fn lsn(&self) -> u64 {
+        self.0.lsn()
+    }
+
     /// The bytes of the page, in place, with all that was put so far.
     #[inline]
     pub fn bytes(&self) -> &[u8] {
@@ -244,6 +265,119 @@ impl<'a> PageMut<'a> {
     pub fn put(&mut self, offset: usize, bytes: &[u8], lsn: u64) -> Result<()> {
         self.0.part.write(self.0.seat, offset, bytes, lsn)
     }
+
+    /// Writes bytes into the page as [`put`](PageMut::put) does, but without a log record: redo need not
+    /// begin at this LSN, and neither [`redo_from`](crate::SharedPager::redo_from) nor a checkpoint tells
+    /// it. The page is not written out before the log is durable up to it, and has it as its page LSN.
+    ///
+    /// This is for pages that are filled without a record, as by a bulk load: take the LSN of the newest
+    /// record. What is put so is lost by a crash until the page was written out and the device synced: so
+    /// do both before the record that makes the page one of the engine's data.
+    ///
+    /// # Errors
+    /// [`OutOfPage`](crate::Error::OutOfPage) where the bytes are not within the page, which is
+    /// unchanged.
+    pub fn put_unlogged(&mut self, offset: usize, bytes: &[u8], lsn: u64) -> Result<()> {
+        let Share { part, seat } = self.0;
+        part.write_unlogged(seat, offset, bytes, lsn)
+    }
+
+    /// Puts bytes at many places of the page, each from its offset on, in this order, under one log
+    /// record. It takes the part's lock once for all of them. Else it is as so many
+    /// [puts](PageMut::put).
+    ///
+    /// # Errors
+    /// [`OutOfPage`](crate::Error::OutOfPage) where some of the bytes are not within the page, of which
+    /// nothing is changed.
+    pub fn put_each(&mut self, parts: &[(usize, &[u8])], lsn: u64) -> Result<()> {
+        self.0.part.write_each(self.0.seat, parts, lsn)
+    }
+
+    /// Changes a range of the page in place, under the log record with this LSN. The function gets the
+    /// bytes of the range as they are, and what it leaves there is in the page afterwards.
+    ///
+    /// ```
+    /// # use hojzmated::{PageIo, ReadFault, SharedConfig, SharedPager};
+    /// # struct Zeros;
+    /// # impl PageIo for Zeros {
+    /// #     fn read_page(&self, _: u64, image: &mut [u8]) -> Result<(), ReadFault> { Ok(image.fill(0)) }
+    /// #     fn write_page(&self, _: u64, _: &mut [u8], _: u64) -> std::io::Result<()> { Ok(()) }
+    /// #     fn make_log_durable(&self, _: u64) -> std::io::Result<()> { Ok(()) }
+    /// #     fn sync(&self) -> std::io::Result<()> { Ok(()) }
+    /// # }
+    /// # fn main() -> Result<(), hojzmated::PagerError> {
+    /// # let pager = SharedPager::new(&SharedConfig::new(100, 4096, 8), Zeros)?;
+    /// let mut page = pager.write(7)?;
+    /// page.put(64, b"a row, and another", 1)?;
+    /// // The first row goes, and the other one moves to its place.
+    /// page.edit(64..82, 2, |bytes| bytes.copy_within(11.., 0))?;
+    /// assert_eq!(page.bytes()[64..71], *b"another");
+    /// // All of the page.
+    /// page.edit(.., 3, |bytes| bytes.fill(0))?;
+    /// # Ok(())
+    /// # }
+    /// ```
+    ///
+    /// The function works on a copy of the range, which is put as a whole once it returns: so the page
+    /// stays as it was where it panics, and the time is that of two copies of the range and one
+    /// [`put`](PageMut::put), however much it changes. Take no more than the range in which the changes
+    /// are; [`put_each`](PageMut::put_each) is for few changes that are far apart. The function may use
+    /// the pager, as who has this latch may.
+    ///
+    /// # Errors
+    /// [`OutOfPage`](crate::Error::OutOfPage) where the range is not within the page, and
+    /// [`OutOfMemory`](crate::Error::OutOfMemory) where there is none for the copy, for which each thread
+    /// keeps its memory. The page is unchanged then, and the function was not called.
+    pub fn edit<T>(
+        &mut self,
+        range: impl RangeBounds<usize>,
+        lsn: u64,
+        change: impl FnOnce(&mut [u8]) -> T,
+    ) -> Result<T> {
+        let Share { part, seat } = self.0;
+        let range = within(range, part.page_size).ok_or(Error::OutOfPage)?;
+        let before = &self.bytes()[range.clone()];
+        let mut few = [0; FEW];
+        if let Some(copy) = few.get_mut(..before.len()) {
+            copy.copy_from_slice(before);
+            let told = change(copy);
+            part.write_copy(seat, range.start, copy, lsn)?;
+            return Ok(told);
+        }
+        // Once the thread's own objects are gone, memory is taken anew each time.
+        let mut copy = COPY.try_with(Cell::take).unwrap_or_default();
+        copy.clear();
+        let room = copy.try_reserve_exact(part.page_size);
+        room.map_err(|_| Error::OutOfMemory)?;
+        copy.extend_from_slice(before);
+        let told = change(&mut copy);
+        let written = part.write_copy(seat, range.start, &copy, lsn);
+        let _ = COPY.try_with(|kept| kept.set(copy));
+        written.map(|()| told)
+    }
+}
+
+/// So many bytes are edited without memory.
+const FEW: usize = 64;
+
+thread_local! {
+    /// The memory of this thread for an edit. An edit within an edit has its own.
+    static COPY: Cell<Vec<u8>> = const { Cell::new(Vec::new()) };
+}
+
+/// Returns the range within a page of this size. None where it is not.
+fn within(range: impl RangeBounds<usize>, page_size: usize) -> Option<Range<usize>> {
+    let start = match range.start_bound() {
+        Bound::Included(start) => *start,
+        Bound::Excluded(before) => before.checked_add(1)?,
+        Bound::Unbounded => 0,
+    };
+    let end = match range.end_bound() {
+        Bound::Included(last) => last.checked_add(1)?,
+        Bound::Excluded(end) => *end,
+        Bound::Unbounded => page_size,
+    };
+    (start <= end && end <= page_size).then_some(start..end)
 }
 
 macro_rules! debug_of {

@@ -1,13 +1,14 @@
 //! `SharedPager`: how it is made, and how it pins a page, or waits for one.
 use super::SharedConfig;
+use super::ahead::Ahead;
 use super::guards::{PageMut, PagePin, PageRef};
 use super::log::Log;
 use super::part::{Fix, Locked, Part, Unlogged, turn_of};
-use super::pins::{Joined, PASSES};
+use super::pins::{Came, Joined, PASSES};
 use super::seats::list_of;
-use super::upkeep::Syncs;
 use super::within::{self, Work};
 use super::work::{Reading, Writing};
+use super::write_outs::Syncs;
 use crate::{Error, PageIo, PagerError, ReadFault, Result};
 use std::fmt;
 use std::sync::atomic::{AtomicU64, AtomicUsize, Ordering};
@@ -122,6 +123,13 @@ use std::time::{Duration, Instant};
 /// - A read that needs a frame gives back 32 such pages at most, those that wait longest. Others that
 ///   nobody uses either stay for now, and the victim is the one of LRU-K among the rest.
 ///
+/// A page that was [read ahead](SharedPager::prefetch) has one reference, of when it was read. Its first use
+/// is told as that same one if it comes within the correlated period, and not at all if it comes later,
+/// but before its frame is wanted: at least a quarter of the frames of its part have been asked for
+/// meanwhile. Later than that it is a second reference, and so it is with
+/// [`SharedConfig::tells_each_pin`] where it comes after the period. Where the first use is counted with
+/// others that came soon after it, all of them are that one.
+///
 /// With a correlated period of 0 only a page that is pinned already is pinned without a lock: 32 such
 /// pins are one reference, and fewer are none. Nothing is given up with
 /// [`SharedConfig::tells_each_pin`].
@@ -141,6 +149,7 @@ pub struct SharedPager<F> {
     pub(super) syncs: Syncs,
     /// The number of calls of `clean`, which begin with the parts in turn.
     pub(super) cleaned: AtomicUsize,
+    pub(super) ahead: Ahead,
     config: SharedConfig,
     pub(super) io: F,
 }
@@ -189,6 +198,7 @@ impl<F> SharedPager<F> {
             log: Log::default(),
             syncs: Syncs::default(),
             cleaned: AtomicUsize::default(),
+            ahead: Ahead::default(),
             config: config.clone(),
             io,
         })
@@ -248,26 +258,44 @@ impl<F: PageIo> SharedPager<F> {
     // Always: else what it gives goes through memory.
     #[inline(always)]
     pub fn read(&self, page: u64) -> Result<PageRef<'_>, PagerError> {
-        let (part, own) = self.place(page)?;
-        match part.join_read(own) {
-            Joined::Latched(page) => Ok(page),
-            other => self.read_slowly(part, own, other),
+        match self.read_at_once(page) {
+            Ok(latched) => Ok(latched),
+            Err(pin) => self.read_slowly(page, pin),
         }
     }
 
+    /// The first step of [`read`](SharedPager::read): the page, where its pass is out and its latch
+    /// free. Else what [`read_slowly`](SharedPager::read_slowly) goes on with. It can't panic.
+    #[doc(hidden)]
+    #[inline(always)]
+    pub fn read_at_once(&self, page: u64) -> Result<PageRef<'_>, Option<PagePin<'_>>> {
+        let Ok((part, own)) = self.place(page) else {
+            return Err(None);
+        };
+        match part.join_read(own) {
+            Joined::Latched(page) => Ok(page),
+            Joined::Pinned(pin) => Err(Some(pin)),
+            Joined::Not => Err(None),
+        }
+    }
+
+    /// The second step: it may wait, use the device, and fail.
+    #[doc(hidden)]
     #[cold]
     #[inline(never)]
-    fn read_slowly<'a>(
+    pub fn read_slowly<'a>(
         &'a self,
-        part: &'a Part,
-        own: u64,
-        joined: Joined<'a, PageRef<'a>>,
+        page: u64,
+        pin: Option<PagePin<'a>>,
     ) -> Result<PageRef<'a>, PagerError> {
-        match joined {
-            Joined::Latched(page) => Ok(page),
-            Joined::Pinned(pin) => Ok(pin.into_read()?),
-            Joined::Not => Ok(self.fix(part, own, WAITING)?.into_read()?),
-        }
+        let pin = match pin {
+            Some(pin) => pin,
+            None => {
+                let (part, own) = self.place(page)?;
+                self.fix(part, own, WAITING)?
+            }
+        };
+        Ok(pin.into_read()?)
     }
 
     /// Returns a page under its shared latch, without waiting for a latch or a pin: None where the
@@ -296,16 +324,27 @@ impl<F: PageIo> SharedPager<F> {
     // Always: else what it gives goes through memory.
     #[inline(always)]
     pub fn write(&self, page: u64) -> Result<PageMut<'_>, PagerError> {
-        let (part, own) = self.place(page)?;
-        match part.join_write(own) {
-            Some(page) => Ok(page),
-            None => self.write_slowly(part, own),
+        match self.write_at_once(page) {
+            Some(latched) => Ok(latched),
+            None => self.write_slowly(page),
         }
     }
 
+    /// The first step of [`write`](SharedPager::write): the page, where its pass is out and its latch
+    /// free. It can't panic.
+    #[doc(hidden)]
+    #[inline(always)]
+    pub fn write_at_once(&self, page: u64) -> Option<PageMut<'_>> {
+        let (part, own) = self.place(page).ok()?;
+        part.join_write(own)
+    }
+
+    /// The second step: it may wait, use the device, and fail.
+    #[doc(hidden)]
     #[cold]
     #[inline(never)]
-    fn write_slowly<'a>(&'a self, part: &'a Part, own: u64) -> Result<PageMut<'a>, PagerError> {
+    pub fn write_slowly(&self, page: u64) -> Result<PageMut<'_>, PagerError> {
+        let (part, own) = self.place(page)?;
         Ok(self.pinned(part, own, WAITING)?.into_write()?)
     }
 
@@ -389,7 +428,7 @@ impl<F: PageIo> SharedPager<F> {
         }
         part.tick_for_call(&mut state)?;
         match part.ask(&mut state, own) {
-            Ok(Fix::Here(pass)) => Ok(part.pinned(state, pass, true)?),
+            Ok(Fix::Here(pass)) => Ok(part.pinned(state, pass, Came::Here)?),
             fixed => self.go_on(part, own, state, asked, fixed),
         }
     }
@@ -407,7 +446,7 @@ impl<F: PageIo> SharedPager<F> {
         let mut patience = Patience::new(part, asked.may_wait.then_some(self.config.pin_wait));
         loop {
             state = match fixed {
-                Ok(Fix::Here(pass)) => return Ok(part.pinned(state, pass, true)?),
+                Ok(Fix::Here(pass)) => return Ok(part.pinned(state, pass, Came::Here)?),
                 Ok(Fix::Read(ticket)) => {
                     return self.load(part, own, asked, Reading::new(part, state, ticket));
                 }
@@ -448,7 +487,7 @@ impl<F: PageIo> SharedPager<F> {
             reading.image.fill(0);
             Ok(())
         } else {
-            within::call(self.number, Work::Page(page), || {
+            within::call(self.number, Work::page(page), || {
                 self.io.read_page(page, &mut reading.image)
             })
         };
@@ -468,7 +507,7 @@ impl<F: PageIo> SharedPager<F> {
         lsn: u64,
         mut writing: Writing<'_>,
     ) -> Result<(), PagerError> {
-        let written = within::call(self.number, Work::Page(page), || {
+        let written = within::call(self.number, Work::page(page), || {
             self.io.write_page(page, &mut writing.image, lsn)
         });
         match written {

@@ -1,13 +1,19 @@
 //! A part: one proved pool under a lock, with what its pins, latches and waiting threads need.
 use super::SharedConfig;
+use super::away::Away;
 use super::firsts::Firsts;
 use super::kept::Kept;
 use super::latch::Queues;
+use super::places::Places;
 use super::seats::{FreeSeats, Seat, Seats, filled, list_of};
-use super::within::{self, Work};
-use crate::{Error, Fixed, Flushed, Pass, Pool, ReadTicket, Result, WriteTicket};
+use super::within;
+use crate::image::Image;
+use crate::{
+    Config, Error, Fixed, Flushed, Pass, Pool, ReadTicket, Result, UnsavedPage, WriteTicket,
+};
 use std::hint::spin_loop;
 use std::mem;
+use std::ops::Range;
 use std::sync::atomic::{AtomicU64, AtomicUsize, Ordering};
 use std::sync::{Condvar, Mutex, MutexGuard, PoisonError, TryLockError};
 use std::thread;
@@ -35,6 +41,10 @@ pub(super) struct Part {
     /// The number of this part and of all parts.
     number: u64,
     parts: u64,
+    /// The temporary pages, by their numbers in the file.
+    temporary: Range<u64>,
+    /// So many ticks a page that was read ahead waits for its use.
+    pub(super) ahead: u64,
     /// The number of the pager.
     pager: u64,
     pin_wait: Duration,
@@ -50,6 +60,9 @@ struct Apart {
     worked: [Condvar; PLACES],
     /// A page was unpinned, or the device work on it has ended.
     let_go: Condvar,
+    /// The same, for threads that wait for one page alone. What is told to one thread of `let_go` is told
+    /// to all of these: so none of them takes it from who waits for a frame.
+    one_let_go: Condvar,
 }
 
 pub(super) struct State {
@@ -57,13 +70,16 @@ pub(super) struct State {
     pub(super) free: FreeSeats,
     pub(super) firsts: Firsts,
     /// Buffers of the page size that no call uses.
-    images: Vec<Vec<u8>>,
-    /// A buffer for a page: see [`Part::write`].
+    images: Vec<Image>,
+    /// A buffer for a page, and where pages are: see [`Part::write`].
     scratch: Vec<u8>,
+    pub(super) places: Places,
     /// The passes that are out, where they stay out.
     pub(super) kept: Kept,
-    /// The clock of the pool.
+    pub(super) away: Away,
+    /// The clock of the pool, and when it is to forget pages next.
     pub(super) now: u64,
+    purge_at: u64,
     /// The ticks of calls that were refused since all pages were pinned. Later calls use them.
     pub(super) unused_ticks: u64,
     /// The number of threads at each place that sleep until the device work on their page has ended.
@@ -74,8 +90,10 @@ pub(super) struct State {
     pub(super) referred: u64,
     /// The number of times that a thread slept.
     pub(super) waits: u64,
-    /// The page from which the next unsaved page to clean is looked for.
+    /// The page from which the next unsaved page to clean is looked for, and the victim that was
+    /// cleaned last, or was not to be had.
     pub(super) clean_from: u64,
+    pub(super) cleaned_victim: Option<u64>,
 }
 
 pub(super) type Locked<'a> = MutexGuard<'a, State>;
@@ -100,33 +118,19 @@ const PLACES: usize = 8;
 const FEW: usize = 64;
 /// So many unsaved pages are looked at in one go under the lock.
 pub(super) const FEW_PAGES: usize = 64;
+/// After so many ticks a part forgets what is too old. As each tick has one reference or so, that is no
+/// more than as many pages in one go: a few microseconds.
+const PURGE_TICKS: u64 = 16;
 /// How long a thread rests between two looks at a latch for which it may not queue.
 const REST: Duration = Duration::from_micros(200);
 
 impl Part {
     pub(super) fn new(config: &SharedConfig, number: usize, pager: u64) -> Result<Part> {
         let (parts, pin_wait) = (config.parts as u64, config.pin_wait);
-        let tells_each = config.tells_each_pin;
+        let (tells_each, temporary) = (config.tells_each_pin, config.temporary.clone());
         // The limits are checked before the lists take memory.
         let config = config.of_part(number)?;
-        let pool = Pool::new(&config)?;
-        let mut images = list_of(KEPT_IMAGES)?;
-        images.push(filled(config.page_size)?);
-        let state = State {
-            pool,
-            free: FreeSeats::new(config.frames)?,
-            firsts: Firsts::new(config.frames)?,
-            images,
-            scratch: filled(config.page_size)?,
-            kept: Kept::new(config.frames)?,
-            now: 1,
-            unused_ticks: 0,
-            for_work: [0; PLACES],
-            joined: 0,
-            referred: 0,
-            waits: 0,
-            clean_from: 0,
-        };
+        let state = State::new(&config)?;
         Ok(Part {
             seats: Seats::new(config.pages, config.frames)?,
             page_size: config.page_size,
@@ -136,6 +140,8 @@ impl Part {
             tells_each,
             number: number as u64,
             parts,
+            temporary,
+            ahead: config.correlated.max(config.frames as u64 / 4),
             pager,
             pin_wait,
             locked: Apart {
@@ -143,6 +149,7 @@ impl Part {
                 queues: Queues::new(config.frames)?,
                 worked: [const { Condvar::new() }; PLACES],
                 let_go: Condvar::new(),
+                one_let_go: Condvar::new(),
             },
         })
     }
@@ -195,7 +202,7 @@ impl Part {
         while state.images.is_empty() {
             let size = state.pool.config().page_size;
             drop(state);
-            let image = filled(size)?;
+            let image = Image::zeros(size)?;
             state = self.lock();
             state.keep(image);
         }
@@ -208,8 +215,8 @@ impl Part {
     /// [`Error::Busy`] in a function of the engine which does that work itself, or which another
     /// thread waits for: there it waits for the pin wait at most.
     pub(super) fn wait_for_work<'a>(&self, mut state: Locked<'a>, page: u64) -> Result<Locked<'a>> {
-        let work = Work::Page(self.in_file(page));
-        if within::is_within(self.pager, |it| it == work) {
+        let page_in_file = self.in_file(page);
+        if within::is_within(self.pager, |work| work.has_page(page_in_file)) {
             return Err(Error::Busy);
         }
         let place = place_of(page);
@@ -233,6 +240,26 @@ impl Part {
     /// for has come: that is asked once other threads see that one waits.
     pub(super) fn wait_for_frame<'a>(
         &self,
+        state: Locked<'a>,
+        most: Duration,
+        has_come: impl FnOnce(&mut State) -> bool,
+    ) -> Locked<'a> {
+        self.wait_for(&self.locked.let_go, state, most, has_come)
+    }
+
+    /// The same for one page, whichever is unpinned.
+    pub(super) fn wait_for_page<'a>(
+        &self,
+        state: Locked<'a>,
+        most: Duration,
+        has_come: impl FnOnce(&mut State) -> bool,
+    ) -> Locked<'a> {
+        self.wait_for(&self.locked.one_let_go, state, most, has_come)
+    }
+
+    fn wait_for<'a>(
+        &self,
+        let_go: &Condvar,
         mut state: Locked<'a>,
         most: Duration,
         has_come: impl FnOnce(&mut State) -> bool,
@@ -240,11 +267,8 @@ impl Part {
         self.waiting.fetch_add(1, Ordering::SeqCst);
         if !has_come(&mut state) {
             state.waits += 1;
-            (state, _) = self
-                .locked
-                .let_go
-                .wait_timeout(state, most)
-                .unwrap_or_else(PoisonError::into_inner);
+            let waited = let_go.wait_timeout(state, most);
+            (state, _) = waited.unwrap_or_else(PoisonError::into_inner);
         }
         self.waiting.fetch_sub(1, Ordering::SeqCst);
         state
@@ -255,11 +279,12 @@ impl Part {
         self.waiting.load(Ordering::SeqCst) != 0
     }
 
-    /// Wakes a thread that waits for a page to be unpinned, if there is one. What has happened did so
-    /// under the lock, or the lock was taken since.
+    /// Wakes a thread that waits for a page to be unpinned, if there is one, and all that wait for one
+    /// page. What has happened did so under the lock, or the lock was taken since.
     pub(super) fn wake_for_frame(&self) {
         if self.has_waiting() {
             self.locked.let_go.notify_one();
+            self.locked.one_let_go.notify_all();
         }
     }
 
@@ -340,7 +365,19 @@ impl Part {
         state.pool.tick(0, n)?;
         state.now += n;
         self.now.store(state.now, Ordering::Relaxed);
+        if state.now >= state.purge_at {
+            // Refused at the end of the pool's calls alone.
+            let _ = self.purge(state);
+        }
         Ok(())
+    }
+
+    /// Forgets pages that are away for longer than the retained period, and returns how many.
+    pub(super) fn purge(&self, state: &mut State) -> Result<u64> {
+        let forgotten = state.pool.purge(0)?;
+        state.away.forget(forgotten, state.now);
+        state.purge_at = state.now.saturating_add(PURGE_TICKS);
+        Ok(forgotten)
     }
 
     /// Moves the clock on by one, for a call that is to return a page.
@@ -353,8 +390,8 @@ impl Part {
         Ok(())
     }
 
-    /// Writes to a pinned page. The bytes are copied first: they may be those of another page of
-    /// the pool, and the library does not accept its own memory.
+    /// Writes to a pinned page. The bytes may be those of another page of the pool, whose own memory
+    /// the library does not accept: then they are copied first.
     #[inline]
     pub(super) fn write(&self, seat: &Seat, offset: usize, bytes: &[u8], lsn: u64) -> Result<()> {
         let mut few = [0; FEW];
@@ -363,16 +400,54 @@ impl Part {
             fetch(seat.bytes().wrapping_add(offset));
             return self.write_apart(&mut self.lock(), seat, offset, copy, lsn);
         }
-        self.write_many(seat, offset, bytes, lsn)
+        self.write_under(&mut self.lock(), seat, offset, bytes, lsn)
     }
 
-    fn write_many(&self, seat: &Seat, offset: usize, bytes: &[u8], lsn: u64) -> Result<()> {
+    /// The same with a copy, which is no memory of the pool.
+    #[inline]
+    pub(super) fn write_copy(
+        &self,
+        seat: &Seat,
+        offset: usize,
+        copy: &[u8],
+        lsn: u64,
+    ) -> Result<()> {
+        self.write_apart(&mut self.lock(), seat, offset, copy, lsn)
+    }
+
+    /// Writes to many places of a pinned page, or to none where one is not within it.
+    pub(super) fn write_each(&self, seat: &Seat, parts: &[(usize, &[u8])], lsn: u64) -> Result<()> {
+        let is_within = |(offset, bytes): &(usize, &[u8])| {
+            let rest = self.page_size.checked_sub(*offset);
+            rest.is_some_and(|rest| bytes.len() <= rest)
+        };
+        if !parts.iter().all(is_within) {
+            return Err(Error::OutOfPage);
+        }
         let mut state = self.lock();
+        for (offset, bytes) in parts {
+            self.write_under(&mut state, seat, *offset, bytes, lsn)?;
+        }
+        Ok(())
+    }
+
+    /// The same as [`write`](Part::write), with the lock held.
+    fn write_under(
+        &self,
+        state: &mut State,
+        seat: &Seat,
+        offset: usize,
+        bytes: &[u8],
+        lsn: u64,
+    ) -> Result<()> {
+        if !state.places.may_have(bytes) {
+            return self.write_apart(state, seat, offset, bytes, lsn);
+        }
         let mut scratch = mem::take(&mut state.scratch);
         let written = match scratch.get_mut(..bytes.len()) {
             Some(copy) => {
                 copy.copy_from_slice(bytes);
-                self.write_apart(&mut state, seat, offset, copy, lsn)
+                self.write_apart(state, seat, offset, copy, lsn)
             }
             None => Err(Error::OutOfPage),
         };
@@ -380,7 +455,7 @@ impl Part {
         written
     }
 
-    /// Writes bytes that are no memory of the pool.
+    /// Writes bytes that are no memory of the pool, with the lock held.
     #[inline]
     fn write_apart(
         &self,
@@ -390,10 +465,42 @@ impl Part {
         bytes: &[u8],
         lsn: u64,
     ) -> Result<()> {
-        let pass = state.pool.pass_of(seat.page(), seat.serial());
-        state.pool.put(&pass, offset, bytes, lsn)?;
+        let page = seat.page();
+        let lsn = if self.is_temporary(page) { 0 } else { lsn };
+        let pass = state.pool.pass_of(page, seat.serial());
+        state.pool.put_apart(&pass, offset, bytes, lsn)?;
         state.firsts.write(self.seats.number_of(seat), lsn);
         Ok(())
+    }
+
+    /// Writes to a pinned page without a record. The LSN is one up to which the log has to be durable
+    /// before the page goes out.
+    pub(super) fn write_unlogged(
+        &self,
+        seat: &Seat,
+        offset: usize,
+        bytes: &[u8],
+        lsn: u64,
+    ) -> Result<()> {
+        let mut state = self.lock();
+        let (number, before) = (self.seats.number_of(seat), seat.page());
+        let firsts = state.firsts.of_seat(number);
+        self.write_under(&mut state, seat, offset, bytes, lsn)?;
+        if !self.is_temporary(before) {
+            state.firsts.unlog(number, firsts);
+        }
+        Ok(())
+    }
+
+    /// Whether a page of this part is temporary.
+    #[inline]
+    pub(super) fn is_temporary(&self, page: u64) -> bool {
+        !self.temporary.is_empty() && self.temporary.contains(&self.in_file(page))
+    }
+
+    /// Returns from where to look for pages that are not temporary, if those of this number are.
+    pub(super) fn after_temporary(&self, page: u64) -> u64 {
+        (self.temporary.end / self.parts).max(page + 1)
     }
 
     /// Asks the pool for a page once.
@@ -403,8 +510,11 @@ impl Part {
         let fix = match state.pool.fix(0, page, image)? {
             Fixed::Hit(page) => Fix::Here(page.into_pass()),
             Fixed::Load { ticket, evicted } => {
-                if let Some(evicted) = evicted {
-                    state.free.take(&self.seats, evicted);
+                state.away.come(&self.seats, page, state.now);
+                if let Some((gone, seat)) = evicted.and_then(|it| Some((it, self.seats.of(it)?))) {
+                    let last = state.kept.last(seat);
+                    state.free.take(&self.seats, gone, seat, last);
+                    state.away.leave();
                 }
                 Fix::Read(ticket)
             }
@@ -419,12 +529,16 @@ impl Part {
     /// Adds a reference to a page, if it is still in a frame. It returns true if the pool has counted
     /// a hit.
     pub(super) fn refer_to(&self, state: &mut State, page: u64) -> bool {
-        if self.seats.of(page).is_none() {
+        let Some(seat) = self.seats.of(page) else {
             return false;
-        }
+        };
         // A page that is in a frame needs no image.
         let State { pool, scratch, .. } = state;
-        matches!(pool.fix(0, page, scratch), Ok(Fixed::Hit(_)))
+        let is_hit = matches!(pool.fix(0, page, scratch), Ok(Fixed::Hit(_)));
+        if is_hit {
+            state.kept.refer(seat, state.now);
+        }
+        is_hit
     }
 
     /// Has the next call choose another victim than this one, whose log record could not be made
@@ -438,8 +552,13 @@ impl Part {
 
     /// Returns the seat of a page if the page is unsaved.
     pub(super) fn unsaved_seat(&self, state: &State, page: u64) -> Option<usize> {
-        let next = state.pool.next_unsaved(page)?;
-        self.seats.of(page).filter(|_| next.page == page)
+        self.unsaved(state, page)?;
+        self.seats.of(page)
+    }
+
+    /// Returns what is told of a page if it is unsaved.
+    pub(super) fn unsaved(&self, state: &State, page: u64) -> Option<UnsavedPage> {
+        state.pool.next_unsaved(page).filter(|it| it.page == page)
     }
 
     /// Returns the least LSN of a write that has a log record and is in no image on the device. A
@@ -448,11 +567,11 @@ impl Part {
         let mut state = self.lock();
         let mut least = state.pool.redo_from();
         // A write without a record hides the others.
-        if least == Some(0) {
+        if least == Some(0) || state.firsts.has_unlogged() {
             let mut from = Some(0);
             least = None;
             while let Some(first) = from {
-                let (few, next) = least_of(&self.seats, &state, first);
+                let (few, next) = self.least_of(&state, first);
                 least = few.into_iter().chain(least).min();
                 from = next;
                 // Other threads may have the lock now and then.
@@ -463,10 +582,42 @@ impl Part {
         least
     }
 
+    /// Returns the least LSN of a write with a record among some unsaved pages, from this number on,
+    /// and the number from which the next ones are to be looked for.
+    fn least_of(&self, state: &State, first: u64) -> (Option<u64>, Option<u64>) {
+        let (mut least, mut from) = (None, first);
+        for _ in 0..FEW_PAGES {
+            let Some(found) = state.pool.next_unsaved(from) else {
+                return (least, None);
+            };
+            if self.is_temporary(found.page) {
+                from = self.after_temporary(found.page);
+                continue;
+            }
+            let seat = self.seats.of(found.page);
+            let lsn = seat.and_then(|seat| state.firsts.of(seat));
+            least = lsn.into_iter().chain(least).min();
+            from = found.page + 1;
+        }
+        (least, Some(from))
+    }
+
     /// Asks once that a page be written out. It returns None where the page is clean or in no
     /// frame.
     pub(super) fn ask_out(&self, state: &mut State, page: u64) -> Result<Option<WriteTicket>> {
-        let image = state.images.last_mut().ok_or(Error::OutOfMemory)?;
+        let mut image = state.images.pop().ok_or(Error::OutOfMemory)?;
+        let asked = self.ask_out_to(state, page, &mut image);
+        state.images.push(image);
+        asked
+    }
+
+    /// The same, with a buffer for the image.
+    pub(super) fn ask_out_to(
+        &self,
+        state: &mut State,
+        page: u64,
+        image: &mut [u8],
+    ) -> Result<Option<WriteTicket>> {
         match state.pool.flush(0, page, image)? {
             Flushed::WriteFirst(ticket) => {
                 self.go_out(state, page);
@@ -538,24 +689,35 @@ fn place_of(page: u64) -> usize {
     (page % PLACES as u64) as usize
 }
 
-/// Returns the least LSN of a write with a record among some unsaved pages, from this number on, and
-/// the number from which the next ones are to be looked for.
-fn least_of(seats: &Seats, state: &State, first: u64) -> (Option<u64>, Option<u64>) {
-    let (mut least, mut from) = (None, first);
-    for _ in 0..FEW_PAGES {
-        let Some(found) = state.pool.next_unsaved(from) else {
-            return (least, None);
-        };
-        let lsn = seats.of(found.page).and_then(|seat| state.firsts.of(seat));
-        least = lsn.into_iter().chain(least).min();
-        from = found.page + 1;
-    }
-    (least, Some(from))
-}
-
 impl State {
+    fn new(config: &Config) -> Result<State> {
+        let pool = Pool::new(config)?;
+        let mut images = list_of(KEPT_IMAGES)?;
+        images.push(Image::zeros(config.page_size)?);
+        Ok(State {
+            pool,
+            free: FreeSeats::new(config.frames)?,
+            firsts: Firsts::new(config.frames)?,
+            images,
+            scratch: filled(config.page_size)?,
+            places: Places::new(config.frames, config.page_size)?,
+            kept: Kept::new(config.frames)?,
+            away: Away::new(config.retained),
+            now: 1,
+            // Before there is nothing to forget.
+            purge_at: config.retained.saturating_add(PURGE_TICKS),
+            unused_ticks: 0,
+            for_work: [0; PLACES],
+            joined: 0,
+            referred: 0,
+            waits: 0,
+            clean_from: 0,
+            cleaned_victim: None,
+        })
+    }
+
     /// Keeps a buffer for later calls, or returns it where enough are kept.
-    pub(super) fn keep(&mut self, image: Vec<u8>) -> Option<Vec<u8>> {
+    pub(super) fn keep(&mut self, image: Image) -> Option<Image> {
         if self.images.len() == KEPT_IMAGES || image.is_empty() {
             return Some(image);
         }
@@ -568,7 +730,7 @@ impl State {
         self.for_work[place_of(page)] > 0
     }
 
-    pub(super) fn image(&mut self) -> Vec<u8> {
+    pub(super) fn image(&mut self) -> Image {
         self.images.pop().unwrap_or_default()
     }
 }

@@ -15,6 +15,16 @@ pub(super) enum Joined<'a, G> {
     Not,
 }
 
+/// How a page came to be in its frame.
+#[derive(Clone, Copy, PartialEq, Eq)]
+pub(super) enum Came {
+    /// It was there.
+    Here,
+    Read,
+    /// It was read before anybody asked for it.
+    Ahead,
+}
+
 /// At most so many passes are looked at before a page is read.
 pub(super) const PASSES: usize = 32;
 
@@ -62,7 +72,8 @@ impl Part {
     }
 
     /// The same with the exclusive latch, if that is free.
-    #[inline]
+    // Always: else what it gives goes through memory.
+    #[inline(always)]
     pub(super) fn join_write(&self, page: u64) -> Option<PageMut<'_>> {
         let seat = self.seats.out(page)?;
         let before = seat.join_alone()?;
@@ -123,26 +134,29 @@ impl Part {
         if word.is_over() {
             if self.keeps && word.joins() > 0 {
                 seat.stay();
-                self.keep(state, self.seats.number_of(seat));
+                self.keep(state, self.seats.number_of(seat), Came::Here);
             } else {
                 self.give_back(state, seat);
             }
         }
     }
 
-    /// Notes that a pass stays out.
-    fn keep(&self, state: &mut State, number: usize) {
-        let due = state.now.saturating_add(state.pool.config().correlated);
-        state.kept.put(number, due);
+    /// Notes that a pass stays out. That of a page which was read ahead waits longer for its use.
+    fn keep(&self, state: &mut State, number: usize, came: Came) {
+        let period = match came {
+            Came::Ahead => self.ahead,
+            _ => state.pool.config().correlated,
+        };
+        state.kept.put(number, state.now.saturating_add(period));
     }
 
-    /// Pins the page of a pass that was just given, and notes whether it was found in its frame.
+    /// Pins the page of a pass that was just given, and notes how it came to be in its frame.
     #[inline]
     pub(super) fn pinned(
         &self,
         mut state: Locked<'_>,
         pass: Pass,
-        was_here: bool,
+        came: Came,
     ) -> Result<PagePin<'_>> {
         let page = pass.page();
         let (Some(number), Ok(bytes)) = (self.seats.of(page), state.pool.place(&pass)) else {
@@ -159,13 +173,19 @@ impl Part {
             return Ok(self.add_pin(seat, Seat::add_pin));
         }
         let (bytes, serial) = (bytes.cast(), pass.serial());
-        let stays = self.keeps && was_here;
+        state.places.note(bytes);
+        let stays = match came {
+            Came::Here => self.keeps,
+            Came::Read => false,
+            Came::Ahead => !self.tells_each,
+        };
+        state.kept.set_ahead(number, came == Came::Ahead);
         seat.begin(page, &Pinned { bytes, serial }, now, stays);
         if !self.tells_each {
             self.seats.set_out(page, number, true);
         }
         if stays {
-            self.keep(&mut state, number);
+            self.keep(&mut state, number, came);
         }
         drop(state);
         // SAFETY: the pass is out, and the pin in the word.
@@ -186,7 +206,7 @@ impl Part {
             return Ok(self.add_pin(seat, Seat::add_pin));
         }
         match self.ask(&mut state, page)? {
-            Fix::Here(pass) => self.pinned(state, pass, true),
+            Fix::Here(pass) => self.pinned(state, pass, Came::Here),
             // This can't be.
             Fix::Read(_) | Fix::Write(_) => Err(Error::UnknownTicket),
         }
@@ -212,7 +232,7 @@ impl Part {
     }
 
     /// Gives a pass back, if it is out and nobody uses its page.
-    fn give_back(&self, state: &mut State, seat: &Seat) -> bool {
+    pub(super) fn give_back(&self, state: &mut State, seat: &Seat) -> bool {
         let Some(joins) = seat.end() else {
             return false;
         };
@@ -233,7 +253,8 @@ impl Part {
 
     /// Counts the pins of a seat's page, while its pass is out, that were made without the lock. The
     /// clock moves on by their number. They are one reference, if the newest of them is: with the
-    /// one before it, if it came within the correlated period.
+    /// one before it, if it came within the correlated period. The first use of a page that was read
+    /// ahead is the one for which it was read: the reference and the tick were had then.
     fn count_under(&self, state: &mut State, number: usize) {
         let seat = self.seats.seat(number);
         if seat.word().joins() == 0 {
@@ -241,18 +262,22 @@ impl Part {
         }
         let joins = seat.take_joins();
         state.joined += joins;
-        let (last, period) = (state.kept.last(number), state.pool.config().correlated);
+        let (last, period) = (state.kept.newest(number), state.pool.config().correlated);
         let is_new = seat.touched().saturating_sub(last) > period || period == 0;
-        // If it is too late for one that moves LAST of the page, LAST stays.
-        if is_new || state.now - last <= period {
+        let was_ahead = state.kept.take_ahead(number);
+        if is_new && was_ahead {
+            state.kept.use_first(number, seat.touched());
+        } else if is_new || state.now - last <= period {
+            // If it is too late for one that moves LAST of the page, LAST stays.
             if self.refer_to(state, seat.page()) {
                 state.referred += 1;
             }
-            let now = state.now;
-            state.kept.refer(number, now);
         }
-        // At the end of its clock the part goes on.
-        let _ = self.tick(state, joins);
+        let ticks = joins - u64::from(was_ahead);
+        if ticks > 0 {
+            // At the end of its clock the part goes on.
+            let _ = self.tick(state, ticks);
+        }
     }
 
     /// Gives passes back that were not touched for the correlated period, and returns how many.
@@ -280,10 +305,14 @@ impl Part {
         let Some(number) = state.kept.take_next() else {
             return false;
         };
-        self.count_under(state, number);
         let seat = self.seats.seat(number);
+        if !seat.word().is_out() {
+            // Its page was discarded.
+            return false;
+        }
+        self.count_under(state, number);
         let period = state.pool.config().correlated;
-        let last = seat.touched().max(state.kept.last(number));
+        let last = seat.touched().max(state.kept.newest(number));
         let mut due = last.saturating_add(period);
         if due <= state.now || at_once {
             if self.give_back(state, seat) {
@@ -300,8 +329,8 @@ impl Part {
     pub(super) fn kept(&self, state: &State) -> (usize, u64) {
         let words = state.kept.seats().map(|seat| self.seats.seat(seat).word());
         words.fold((0, 0), |(unused, joins), word| {
-            let is_unused = usize::from(!word.is_used());
-            (unused + is_unused, joins + word.joins())
+            let is_unused = word.is_out() && !word.is_used();
+            (unused + usize::from(is_unused), joins + word.joins())
         })
     }
 

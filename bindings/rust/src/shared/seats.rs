@@ -16,9 +16,11 @@
 //!   compare-and-swap (Acquire) that finds OUT and no READER, WRITER or CLOSED.
 //! - **Letting go** takes the share from the word (SeqCst, so a Release): all use of the page is before
 //!   the next latch, and before OUT goes (SeqCst, so an Acquire).
-//! - **Bytes** of a page change by [`Part::write`], under a WRITER and the part's lock. They are looked
-//!   at under a READER or by the WRITER, or are copied under the lock where there is no WRITER: one
-//!   that comes then writes nothing before the lock is open.
+//! - **Bytes** of a page change by [`Part::write`] and its like, under a WRITER and the part's lock. They
+//!   are looked at under a READER or by the WRITER, or are copied under the lock where there is no
+//!   WRITER: one that comes then writes nothing before the lock is open.
+//! - **Places** of pages in memory are noted under the lock before OUT is set, and never taken back. So who
+//!   has the lock, and bytes whose place is not noted, has none of a page of the part.
 //! - **QUEUED and CLOSED** change under the mutex of [`Queues`] alone. They are set where the latch is
 //!   not free, and go as the last thread of the queue is let in. While CLOSED is there who comes does
 //!   not get the latch. Who leaves a word that has QUEUED, and no READER or WRITER any more, calls
@@ -30,11 +32,15 @@
 //!   sleeps, all under the part's lock. Who lets go looks at `waiting` (SeqCst) after it took its share
 //!   back (SeqCst), and takes the lock before it wakes: so one of both sees the other.
 //! - **STAYS and joins** are for [`Part::make_way`]. Without STAYS the last share gives the pass back,
-//!   under the lock. Joins are counted as shares are added, and taken under the lock.
+//!   under the lock. Joins are counted as shares are added, and taken under the lock. A page that was read
+//!   ahead has STAYS from the first, before any share but the reader's.
 //! - **The seat of a page** changes under the lock, and else is a hint (Relaxed): `page` is compared
 //!   under a share. So are `touched` and the part's `now` (Relaxed), on which no safety relies.
 //! - **Order of locks:** a latch, then the part's lock, then the mutex of the queues. Nobody waits for a
 //!   latch, sleeps for anything else than the lock itself, or calls the engine with the part's lock.
+//! - **Tickets.** Who has tickets of pages, to read them or write them out, waits for no latch, log, page or
+//!   frame, and begins no other device work, until they have ended: it takes the locks of parts alone, for
+//!   more tickets of a row. Others may wait for these tickets with latches.
 //!
 //! [`Part::write`]: super::part::Part::write
 //! [`Part::make_way`]: super::part::Part::make_way
@@ -235,10 +241,15 @@ impl Seat {
 /// The seats of a part, and the seat of each page that is in a frame.
 pub(super) struct Seats {
     seats: Box<[Seat]>,
-    /// For each page of the part its seat plus one, twice, and one more while its pass is out; or 0.
-    /// It changes under the part's lock.
+    /// For each page of the part its seat plus one, twice, and one more while its pass is out. Or AWAY
+    /// and the end of the time of its newest reference, if it left its frame; or UNKNOWN and that of when
+    /// its references were forgotten, twice; or 0. It changes under the part's lock.
     of_page: Box<[AtomicU32]>,
 }
+
+/// Beyond what a page has that is in a frame: there are at most 65,536.
+const UNKNOWN: u32 = 1 << 30;
+const AWAY: u32 = 1 << 31;
 
 /// Returns an empty list with memory for so many.
 pub(super) fn list_of<T>(most: usize) -> Result<Vec<T>> {
@@ -278,7 +289,36 @@ impl Seats {
     #[inline]
     pub(super) fn of(&self, page: u64) -> Option<usize> {
         let found = self.of_page.get(page as usize)?.load(Ordering::Relaxed);
+        if found >= UNKNOWN {
+            return None;
+        }
         (found as usize / 2).checked_sub(1)
+    }
+
+    /// Returns what is noted of a page. It changes each time that the page comes into a frame or leaves
+    /// it. Without the part's lock it may be that of a moment ago.
+    pub(super) fn noted(&self, page: u64) -> u32 {
+        let found = self.of_page.get(page as usize);
+        found.map_or(0, |it| it.load(Ordering::Relaxed))
+    }
+
+    /// Returns how many ticks ago the newest reference was of a page that left its frame, but for a
+    /// multiple of 2^31. The part is locked.
+    pub(super) fn age_of(&self, page: u64, now: u64) -> Option<u64> {
+        let found = self.of_page.get(page as usize)?.load(Ordering::Relaxed);
+        let last = found.checked_sub(AWAY)?;
+        Some(u64::from((now as u32).wrapping_sub(last) % AWAY))
+    }
+
+    /// Notes that a page left its frame, whose newest reference was then. The part is locked.
+    fn set_away(&self, page: u64, last: u64) {
+        self.of_page[page as usize].store(AWAY | (last as u32 % AWAY), Ordering::Relaxed);
+    }
+
+    /// Notes that nothing is known any more of a page that is in no frame, since then. The part is locked.
+    pub(super) fn set_unknown(&self, page: u64, now: u64) {
+        let noted = UNKNOWN | ((now as u32).wrapping_mul(2) % UNKNOWN);
+        self.of_page[page as usize].store(noted, Ordering::Relaxed);
     }
 
     /// Returns the seat of a page whose pass was out just now.
@@ -329,12 +369,16 @@ impl FreeSeats {
         seat as usize
     }
 
-    /// Takes back the seat of a page that left its frame.
-    pub(super) fn take(&mut self, seats: &Seats, page: u64) {
-        if let Some(seat) = seats.of(page) {
-            seats.set(page, 0);
-            self.free.push(seat as u32);
-        }
+    /// Takes back the seat of a page that left its frame, whose newest reference was then.
+    pub(super) fn take(&mut self, seats: &Seats, page: u64, seat: usize, last: u64) {
+        seats.set_away(page, last);
+        self.free.push(seat as u32);
+    }
+
+    /// Takes back the seat of a page that was discarded: no reference of it is known any more.
+    pub(super) fn take_discarded(&mut self, seats: &Seats, page: u64, seat: usize, now: u64) {
+        seats.set_unknown(page, now);
+        self.free.push(seat as u32);
     }
 
     /// Returns the number of seats that pages have.

@@ -1,13 +1,11 @@
-//! A shared pager's flushes and checkpoints, its counters, and the thread that cleans pages.
-use super::guards::PageRef;
+//! A shared pager's counters, and the pages that are cleaned before they have to make way.
 use super::pager::SharedPager;
 use super::part::{FEW_PAGES, Locked, Part};
-use super::seats::list_of;
-use super::within::{self, Work};
 use super::work::Writing;
-use crate::{Error, PageIo, PagerError, Result, Totals};
+use crate::image::Image;
+use crate::{Error, PageIo, PagerError, Result, Totals, UnsavedPage};
 use std::panic::{AssertUnwindSafe, catch_unwind};
-use std::sync::atomic::{AtomicBool, Ordering};
+use std::sync::atomic::Ordering;
 use std::sync::{Arc, Condvar, Mutex, PoisonError};
 use std::thread::{self, JoinHandle};
 use std::time::Duration;
@@ -30,16 +28,21 @@ pub struct Stats {
     /// The number of times that a thread slept until a page was read, written out or unpinned, or its
     /// latch was free.
     pub waits: u64,
-    /// The memory of the pager in bytes, approximately: images, frames, lists. The references that
-    /// are kept of pages in no frame come on top.
+    /// Pages in no frame whose references are kept, approximately: the pools below do not tell it, so
+    /// it is counted as pages leave, are read again, and are forgotten. See
+    /// [`SharedConfig::retained`](crate::SharedConfig::retained).
+    pub remembered: usize,
+    /// The memory of the pager in bytes, approximately: images, frames, lists, and 200 bytes for each
+    /// page of the most that were remembered at once. The lists for these double as they grow, so that
+    /// they may have twice as much, and do not shrink.
     pub memory: usize,
 }
 
 /// The bytes of memory for a frame besides its image, and for a page of the file.
 const OF_FRAME: usize = 350;
 const OF_PAGE: usize = 8;
-/// A flush makes the log durable so often without a latch of its page. Then it keeps the latch.
-const MOST_ROUNDS: u32 = 2;
+/// For a page that is away and remembered.
+const OF_REMEMBERED: usize = 200;
 /// The buffers that a part has besides those of its frames.
 const SPARE_IMAGES: usize = 3;
 
@@ -57,7 +60,10 @@ impl<F> SharedPager<F> {
             let state = part.lock();
             let (config, counts) = (state.pool.config(), state.pool.stats());
             stats.memory += config.pages as usize * OF_PAGE + config.frames * OF_FRAME;
-            stats.memory += (state.free.most() + SPARE_IMAGES) * config.page_size;
+            stats.memory += state.free.most() * config.page_size;
+            stats.memory += SPARE_IMAGES * Image::memory_of(config.page_size);
+            stats.memory += state.away.most() * OF_REMEMBERED;
+            stats.remembered += state.away.count();
             stats.resident += counts.resident;
             let (unused, joins) = part.kept(&state);
             stats.pinned += counts.pinned - unused;
@@ -72,13 +78,15 @@ impl<F> SharedPager<F> {
     /// Forgets the references of pages that are in no frame and whose newest reference is older
     /// than the retained period. It returns the number of these pages.
     ///
+    /// The pager does so by itself, in each part after 16 fixes: so there is no need to call this.
+    ///
     /// # Errors
     /// None, so long as no pool answers 2^61 calls.
     pub fn purge(&self) -> Result<u64> {
         let forgotten = self.parts.iter().map(|part| {
             let mut state = part.lock();
             part.make_way(&mut state, usize::MAX);
-            state.pool.purge(0)
+            part.purge(&mut state)
         });
         forgotten.sum()
     }
@@ -88,172 +96,15 @@ impl<F> SharedPager<F> {
     pub fn redo_from(&self) -> Option<u64> {
         self.parts.iter().filter_map(Part::redo_from).min()
     }
-
-    /// Returns the numbers of all unsaved pages, in the order of the file, and the greatest LSN of
-    /// a write to them.
-    fn unsaved_pages(&self) -> Result<(Vec<u64>, u64)> {
-        let (mut pages, mut greatest) = (list_of(0)?, 0);
-        for part in &self.parts {
-            let mut from = Some(0);
-            while let Some(first) = from {
-                // Memory is asked for with the lock open.
-                pages
-                    .try_reserve(FEW_PAGES)
-                    .map_err(|_| Error::OutOfMemory)?;
-                let state = part.lock();
-                let (before, mut last) = (pages.len(), first);
-                for found in state.pool.unsaved(first).take(FEW_PAGES) {
-                    pages.push(part.in_file(found.page));
-                    greatest = greatest.max(found.lsn);
-                    last = found.page;
-                }
-                from = (pages.len() - before == FEW_PAGES).then_some(last + 1);
-            }
-        }
-        pages.sort_unstable();
-        Ok((pages, greatest))
-    }
-}
-
-/// The turn to sync the device, and whether a sync failed.
-#[derive(Default)]
-pub(super) struct Syncs {
-    turn: Mutex<()>,
-    has_failed: AtomicBool,
-}
-
-/// A sync that is under way. If it is dropped before its end it has failed.
-struct Syncing<'a>(&'a AtomicBool);
-
-impl Drop for Syncing<'_> {
-    fn drop(&mut self) {
-        self.0.store(true, Ordering::SeqCst);
-    }
-}
-
-impl Syncs {
-    /// # Errors
-    /// [`PagerError::SyncFailedBefore`] where an earlier sync failed.
-    fn check(&self) -> Result<(), PagerError> {
-        match self.has_failed.load(Ordering::SeqCst) {
-            false => Ok(()),
-            true => Err(PagerError::SyncFailedBefore),
-        }
-    }
-
-    /// Syncs the device for the pager with this number. One thread does so at a time: a sync that goes
-    /// well beside one that fails does not say that all was kept.
-    fn sync<F: PageIo>(&self, io: &F, pager: u64) -> Result<(), PagerError> {
-        if within::is_within(pager, |work| work == Work::Sync) {
-            let why = "sync called for a checkpoint, which needs another sync";
-            let source = io::Error::new(io::ErrorKind::Deadlock, why);
-            return Err(PagerError::Sync { source });
-        }
-        let _turn = self.turn.lock().unwrap_or_else(PoisonError::into_inner);
-        self.check()?;
-        let syncing = Syncing(&self.has_failed);
-        within::call(pager, Work::Sync, || io.sync())
-            .map_err(|source| PagerError::Sync { source })?;
-        mem::forget(syncing);
-        Ok(())
-    }
 }
 
 impl<F: PageIo> SharedPager<F> {
-    /// Writes a page out if it is unsaved. It waits for a thread that writes to the page, as one that
-    /// wants to read it, and for one that writes it out. The page may be unsaved again by later
-    /// writes.
-    ///
-    /// While the device or the log works it has no latch: the page can be written to. But where that
-    /// was done twice before the log was durable, it has the shared latch while the log is made
-    /// durable once more.
-    ///
-    /// # Errors
-    /// [`PagerError::Write`] and [`PagerError::Log`] where the device or the log failed, and the
-    /// page is unsaved. [`PagerError::Refused`] with [`OutOfPage`](Error::OutOfPage) where the file
-    /// has no such page, with [`OutOfMemory`](Error::OutOfMemory), and in a function of [`PageIo`]
-    /// with [`Busy`](Error::Busy).
-    pub fn flush(&self, page: u64) -> Result<(), PagerError> {
-        let (part, own) = self.place(page)?;
-        let mut latch: Option<PageRef<'_>> = None;
-        let mut rounds = 0;
-        loop {
-            let mut state = part.with_image(part.lock())?;
-            let Some(number) = part.unsaved_seat(&state, own) else {
-                return Ok(());
-            };
-            // A page is written out between the writes of its writers, and not within them. They write
-            // under the lock: so where nobody has the page now, no latch is needed for its image.
-            if latch.is_none() && (rounds >= MOST_ROUNDS || part.is_written(number)) {
-                latch = Some(part.pin_under(state, own)?.into_read()?);
-                continue;
-            }
-            match part.ask_out(&mut state, own) {
-                Ok(Some(ticket)) => {
-                    let lsn = ticket.lsn();
-                    let writing = Writing::new(part, state, ticket, false);
-                    drop(latch);
-                    return self.write_out(page, lsn, writing);
-                }
-                Err(Error::NeedLog { lsn }) => {
-                    // The lock is opened before the latch is freed, here and below.
-                    drop(state);
-                    latch = latch.filter(|_| rounds >= MOST_ROUNDS);
-                    rounds += 1;
-                    drop(self.reach_log(part, lsn)?);
-                }
-                Err(Error::Busy) if latch.is_some() => {
-                    drop(state);
-                    latch = None;
-                    // Without the latch the next round waits for that work.
-                    rounds = 0;
-                }
-                Err(Error::Busy) => drop(part.wait_for_work(state, own)?),
-                other => {
-                    drop(state);
-                    return Ok(other.map(drop)?);
-                }
-            }
-        }
-    }
-
-    /// Writes out each page that was unsaved when the call began, in the order of the file, and
-    /// then syncs the device, by [`PageIo::sync`]. It ends however many threads read and write
-    /// meanwhile: see [`SharedPager::flush`].
-    ///
-    /// It returns the LSN from which redo must begin, which counts writes of other threads
-    /// meanwhile: the least among the writes that may not be on the device. It is None where there
-    /// is no such write. The pager does not know a record that has no write yet: so note the end of
-    /// the log before the call, while no thread is between a record and its write, and cut the log
-    /// at the lesser of both. A thread that has a page under its exclusive latch waits here for
-    /// ever.
-    ///
-    /// # Errors
-    /// The first of those of [`SharedPager::flush`], after which all pages are written out that could
-    /// be, and the device is not synced; [`OutOfMemory`](Error::OutOfMemory) in
-    /// [`PagerError::Refused`].
-    ///
-    /// [`PagerError::Sync`] where the sync failed. Then all that was written out since the last
-    /// successful sync may be lost, and the pager counts it as saved. From then on each checkpoint
-    /// is refused with [`PagerError::SyncFailedBefore`], also one that was under way: end the pager,
-    /// and redo from the log.
-    pub fn checkpoint(&self) -> Result<Option<u64>, PagerError> {
-        self.syncs.check()?;
-        let (pages, greatest) = self.unsaved_pages()?;
-        // Makes the log durable once for all of them.
-        let logged = self.log.reach(&self.io, self.number, greatest);
-        let flushed = pages.into_iter().map(|page| self.flush(page));
-        flushed.fold(logged, Result::and)?;
-        // Before the sync: what goes out during it may not be kept by it.
-        let redo = self.redo_from();
-        self.syncs.sync(&self.io, self.number)?;
-        Ok(redo)
-    }
-
     /// Writes out at most `most` pages, so that later victims need not be written out. These are
     /// pages that nobody has pinned, whose log records are durable by what
-    /// [`mark`](SharedPager::mark) or an earlier call told. It waits for no other thread. It
-    /// returns the number of pages that were written out.
+    /// [`mark`](SharedPager::mark) or an earlier call told, but for
+    /// [temporary](crate::SharedConfig::temporary) ones: of each part the page that has to make way next,
+    /// and then others in the order of the file, on from where an earlier call stopped. It waits for
+    /// no other thread. It returns the number of pages that were written out.
     ///
     /// # Errors
     /// [`PagerError::Write`] where the device failed: the page is unsaved, and the others were
@@ -273,8 +124,9 @@ impl<F: PageIo> SharedPager<F> {
             // out.
             let unsaved = part.lock().pool.stats().unsaved;
             let mut looks = unsaved.min(share.saturating_mul(4).saturating_add(FEW_PAGES));
+            let mut is_first = true;
             while looks > 0 && cleaned < end {
-                match self.clean_next(part, durable, &mut looks) {
+                match self.clean_next(part, durable, &mut looks, mem::take(&mut is_first)) {
                     Ok(is_clean) => cleaned += usize::from(is_clean),
                     Err(error) => fault = fault.and(Err(error)),
                 }
@@ -285,8 +137,14 @@ impl<F: PageIo> SharedPager<F> {
 
     /// Writes out the next page of a part that may be, if nobody is in the way. It returns true if
     /// one was written out.
-    fn clean_next(&self, part: &Part, durable: u64, looks: &mut usize) -> Result<bool, PagerError> {
-        let Some((mut state, own)) = next_ready(part, durable, looks)? else {
+    fn clean_next(
+        &self,
+        part: &Part,
+        durable: u64,
+        looks: &mut usize,
+        is_first: bool,
+    ) -> Result<bool, PagerError> {
+        let Some((mut state, own)) = next_ready(part, durable, looks, is_first)? else {
             return Ok(false);
         };
         state.pool.mark(0, durable)?;
@@ -304,12 +162,13 @@ impl<F: PageIo> SharedPager<F> {
 }
 
 /// Returns the next page of a part that may be written out, if one is found at once: nobody uses it.
-/// The search begins after the page that was found last: so a page whose write-out panics is not
-/// always the first.
+/// At first that is the victim, but not the same twice in a row. The search for others begins after the
+/// page that was found last: so a page whose write-out panics is not always the first.
 fn next_ready<'a>(
     part: &'a Part,
     durable: u64,
     looks: &mut usize,
+    is_first: bool,
 ) -> Result<Option<(Locked<'a>, u64)>> {
     let locked = part.with_image(part.lock());
     if locked.is_err() {
@@ -317,6 +176,18 @@ fn next_ready<'a>(
         *looks = 0;
     }
     let mut state = locked?;
+    let is_unused = |seat| !part.seats.seat(seat).word().is_used();
+    let is_ready = |it: &UnsavedPage| {
+        let seat = part.seats.of(it.page).filter(|_| it.lsn <= durable);
+        seat.is_some_and(is_unused) && !part.is_temporary(it.page)
+    };
+    if let Some(victim) = is_first.then(|| state.pool.victim()).flatten() {
+        let is_new = state.cleaned_victim.replace(victim) != Some(victim);
+        let unsaved = part.unsaved(&state, victim).filter(is_ready);
+        if is_new && unsaved.is_some() {
+            return Ok(Some((state, victim)));
+        }
+    }
     for _ in 0..FEW_PAGES.min(*looks) {
         *looks -= 1;
         let from = state.clean_from;
@@ -325,9 +196,12 @@ fn next_ready<'a>(
             *looks = 0;
             break;
         };
+        if part.is_temporary(next.page) {
+            state.clean_from = part.after_temporary(next.page);
+            continue;
+        }
         state.clean_from = next.page + 1;
-        let is_unused = |seat| !part.seats.seat(seat).word().is_used();
-        if next.lsn <= durable && part.seats.of(next.page).is_some_and(is_unused) {
+        if is_ready(&next) {
             return Ok(Some((state, next.page)));
         }
     }

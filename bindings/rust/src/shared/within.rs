@@ -6,10 +6,21 @@ use std::ptr;
 /// What a pager has the engine do.
 #[derive(Clone, Copy, PartialEq, Eq)]
 pub(super) enum Work {
-    /// Read a page, or write it out.
-    Page(u64),
+    /// Read so many pages side by side, from this one on, or write them out.
+    Pages(u64, u64),
     Log,
     Sync,
+}
+
+impl Work {
+    pub(super) fn page(page: u64) -> Work {
+        Work::Pages(page, 1)
+    }
+
+    /// Whether it is to read this page, or to write it out.
+    pub(super) fn has_page(self, page: u64) -> bool {
+        matches!(self, Work::Pages(first, count) if page >= first && page - first < count)
+    }
 }
 
 /// A function of the engine that is under way, on the stack of the thread that called it.

@@ -1,6 +1,8 @@
 //! Device work that is under way: a read, and a write-out. On every way out it ends.
 use super::guards::PagePin;
 use super::part::{Locked, Part};
+use super::pins::Came;
+use crate::image::Image;
 use crate::{Error, PageGuard, ReadFault, ReadTicket, Refused, Result, WriteTicket};
 use std::mem;
 
@@ -9,7 +11,7 @@ use std::mem;
 pub(super) struct Reading<'a> {
     part: &'a Part,
     ticket: Option<ReadTicket>,
-    pub(super) image: Vec<u8>,
+    pub(super) image: Image,
     /// The fault with which it ends then.
     fault: ReadFault,
 }
@@ -24,12 +26,33 @@ impl<'a> Reading<'a> {
         }
     }
 
+    /// Begins to read a page whose image comes to another buffer. The lock is opened.
+    pub(super) fn ahead(part: &'a Part, state: Locked<'a>, ticket: ReadTicket) -> Reading<'a> {
+        drop(state);
+        Reading {
+            part,
+            ticket: Some(ticket),
+            image: Image::default(),
+            fault: ReadFault::Device(std::io::ErrorKind::Other.into()),
+        }
+    }
+
     /// Ends the read where it succeeded, and pins the page.
     pub(super) fn end(mut self) -> Result<PagePin<'a>> {
+        self.end_with(None, Came::Read)
+    }
+
+    /// Ends a read ahead, where it succeeded, with its image. The page is not pinned, but its pass
+    /// stays out until it was used, or has to make way.
+    pub(super) fn end_ahead(mut self, image: &[u8]) -> Result<()> {
+        self.end_with(Some(image), Came::Ahead).map(drop)
+    }
+
+    fn end_with(&mut self, other: Option<&[u8]>, came: Came) -> Result<PagePin<'a>> {
         let ticket = self.ticket.take().ok_or(Error::UnknownTicket)?;
         let part = self.part;
         let mut state = part.lock();
-        let ended = state.pool.end_read(ticket, &self.image);
+        let ended = state.pool.end_read(ticket, other.unwrap_or(&self.image));
         let pass = match ended.map(PageGuard::into_pass) {
             Ok(pass) => pass,
             Err(Refused { error, token }) => {
@@ -42,7 +65,7 @@ impl<'a> Reading<'a> {
         state.free.give(&part.seats, page);
         self.image = state.keep(mem::take(&mut self.image)).unwrap_or_default();
         let has_sleepers = state.has_sleepers(page);
-        let pin = part.pinned(state, pass, false);
+        let pin = part.pinned(state, pass, came);
         part.wake_for_work(page, has_sleepers);
         pin
     }
@@ -59,6 +82,8 @@ impl Drop for Reading<'_> {
             let mut state = self.part.lock();
             // A ticket of this pool that is out is always taken.
             let _ = state.pool.fail_read(ticket, &self.fault);
+            let now = state.now;
+            state.away.come_back(&self.part.seats, page, now);
             self.image = state.keep(mem::take(&mut self.image)).unwrap_or_default();
             self.part.wake(state, page);
         }
@@ -69,7 +94,8 @@ impl Drop for Reading<'_> {
 pub(super) struct Writing<'a> {
     part: &'a Part,
     ticket: Option<WriteTicket>,
-    pub(super) image: Vec<u8>,
+    /// Empty where the image is elsewhere.
+    pub(super) image: Image,
     /// Whether the page is a victim.
     is_victim: bool,
 }
@@ -88,6 +114,21 @@ impl<'a> Writing<'a> {
             image: state.image(),
             is_victim,
         }
+    }
+
+    /// Begins to write a page out whose image was taken to another buffer.
+    pub(super) fn of_run(part: &'a Part, ticket: WriteTicket) -> Writing<'a> {
+        Writing {
+            part,
+            ticket: Some(ticket),
+            image: Image::default(),
+            is_victim: false,
+        }
+    }
+
+    /// The page, by its number in the part. None where it has ended.
+    pub(super) fn page(&self) -> Option<u64> {
+        self.ticket.as_ref().map(WriteTicket::page)
     }
 
     /// Ends the write-out where it succeeded.

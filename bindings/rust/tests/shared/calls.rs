@@ -131,6 +131,7 @@ fn counts() {
         writes: 0,
         failed: 0,
         refused: 0,
+        discards: 0,
     };
     assert_eq!(stats.totals, totals);
     let few = (stats.resident, stats.pinned, stats.unsaved, stats.waits);

@@ -208,7 +208,9 @@ impl Engine {
             5 => {
                 let pin = self.pager.pin(first)?;
                 thread::scope(|threads| {
-                    threads.spawn(move || self.look(first, &pin.read()));
+                    // Joined here: the thread sanitizer does not see how a scope of std waits.
+                    let look = threads.spawn(move || self.look(first, &pin.read()));
+                    look.join().unwrap();
                 });
             }
             6 => {

@@ -1,6 +1,10 @@
 //! A pager that many threads share.
+mod ahead;
+mod by_age;
 mod calls;
 mod device;
+mod discard;
+mod edits;
 mod engine;
 mod faulty;
 mod kept;
@@ -10,11 +14,14 @@ mod natural;
 mod nested;
 mod others;
 mod overlap;
+mod owned;
 mod panics;
 mod refusals;
+mod remembered;
 mod rows;
 mod spread;
 mod stalls;
 mod stress;
 mod turns;
+mod unlogged;
 mod upkeep;

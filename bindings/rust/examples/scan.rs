@@ -1,0 +1,378 @@
+//! Does a scan push out the pages that are wanted again and again, and what is gained by reading ahead?
+//!
+//!     scan [SECONDS]
+//!     scan ahead [SECONDS]
+//!     scan calls
+//!
+//! The table has 12,000 pages of 4,096 bytes. Their device is in memory, so that each read is a copy.
+//! There are 1,024 frames in 16 parts.
+//!
+//! Two threads look at pages of 620, spread over the table, and rest 200 us after each; a third one
+//! scans, from the beginning again after the end. For each row the pager is made anew, and three scans
+//! are made before it counts, for so many seconds. Printed is a table by K, period and the memory of pages that are away: the pages
+//! that had to be read for a look-up, beside a plain scan and one that has 16 pages read ahead by four
+//! threads; the pages that these scans had in a second; how many pages were remembered at the end of
+//! the plain one, and the memory of its pager.
+//!
+//! With `ahead` each read takes 100 us and more, as long as a thread sleeps that wants to sleep so long.
+//! One thread scans, with pages read ahead by so many threads, one by one or up to 16 by one read: printed
+//! are the pages in a second, and how many times that of the plain scan it is.
+//!
+//! With `calls` one thread scans 1,000,000 pages, which need no device, with 65,536 frames in one part:
+//! printed are the mean and the greatest time of a call, the pages that are remembered at the end and the
+//! memory of the pager, with a memory of eight times the frames and with one without end. The same is done
+//! with a `Pool`, which is purged after each 16 fixes: printed are the mean and the greatest time of a
+//! purge, and the most pages that one forgot.
+use hojzmated::{Config, Fixed, PageIo, Pool, ReadFault, SharedConfig, SharedPager, Stats};
+use std::cell::Cell;
+use std::error::Error;
+use std::io;
+use std::sync::Arc;
+use std::sync::atomic::{AtomicBool, AtomicU64, Ordering};
+use std::thread::{scope, sleep};
+use std::time::{Duration, Instant};
+
+type Outcome<T> = Result<T, Box<dyn Error + Send + Sync>>;
+type Shared = Arc<SharedPager<Arc<Pages>>>;
+
+const PAGES: u64 = 12_000;
+const SIZE: usize = 4096;
+const FRAMES: usize = 1024;
+const PARTS: usize = 16;
+const HOT: u64 = 620;
+const REST: Duration = Duration::from_micros(200);
+const SLOW: Duration = Duration::from_micros(100);
+const WITHOUT_END: u64 = 1 << 62;
+/// So many scans come before those that count.
+const BEFORE: u64 = 3;
+/// So many pages are asked for at a time.
+const STEP: u64 = 8;
+
+thread_local! {
+    /// The pages that this thread had to read.
+    static READS: Cell<u64> = const { Cell::new(0) };
+}
+
+/// Pages in memory with their number in each byte, and a log that is always durable.
+#[derive(Clone)]
+struct Pages {
+    /// How long each read takes besides, and how many pages one takes.
+    delay: Option<Duration>,
+    most: usize,
+}
+
+impl PageIo for Pages {
+    fn read_page(&self, page: u64, image: &mut [u8]) -> Result<(), ReadFault> {
+        READS.set(READS.get() + 1);
+        self.read_pages(page, 1, image)
+    }
+
+    fn write_page(&self, _page: u64, _image: &mut [u8], _lsn: u64) -> io::Result<()> {
+        Ok(())
+    }
+
+    fn most_pages(&self) -> usize {
+        self.most
+    }
+
+    fn read_pages(&self, first: u64, _count: usize, images: &mut [u8]) -> Result<(), ReadFault> {
+        self.delay.into_iter().for_each(sleep);
+        for (page, image) in (first..).zip(images.chunks_mut(SIZE)) {
+            image.fill(page as u8);
+        }
+        Ok(())
+    }
+
+    fn make_log_durable(&self, _lsn: u64) -> io::Result<()> {
+        Ok(())
+    }
+
+    fn sync(&self) -> io::Result<()> {
+        Ok(())
+    }
+}
+
+/// Pages that need no device.
+struct Nothing;
+
+impl PageIo for Nothing {
+    fn read_page(&self, _page: u64, _image: &mut [u8]) -> Result<(), ReadFault> {
+        Ok(())
+    }
+
+    fn write_page(&self, _page: u64, _image: &mut [u8], _lsn: u64) -> io::Result<()> {
+        Ok(())
+    }
+
+    fn make_log_durable(&self, _lsn: u64) -> io::Result<()> {
+        Ok(())
+    }
+
+    fn sync(&self) -> io::Result<()> {
+        Ok(())
+    }
+}
+
+/// What is counted while it counts.
+#[derive(Default)]
+struct Counts {
+    is_counting: AtomicBool,
+    is_over: AtomicBool,
+    look_ups: AtomicU64,
+    reads: AtomicU64,
+    scanned: AtomicU64,
+    /// How many whole scans were made.
+    scans: AtomicU64,
+}
+
+impl Counts {
+    fn add(&self, to: &AtomicU64, number: u64) {
+        if self.is_counting.load(Ordering::Relaxed) {
+            to.fetch_add(number, Ordering::Relaxed);
+        }
+    }
+
+    fn is_over(&self) -> bool {
+        self.is_over.load(Ordering::Relaxed)
+    }
+
+    fn of(number: &AtomicU64) -> f64 {
+        number.load(Ordering::Relaxed) as f64
+    }
+}
+
+/// Looks at the whole of a page.
+fn look(pager: &Shared, page: u64) -> Outcome<()> {
+    let bytes = pager.read(page)?;
+    match bytes.iter().all(|byte| *byte == page as u8) {
+        true => Ok(()),
+        false => Err("a wrong page".into()),
+    }
+}
+
+/// Looks hot pages up, and rests after each.
+fn look_up(pager: &Shared, counts: &Counts, thread: u64) -> Outcome<()> {
+    let mut number = 0x9e37_79b9_7f4a_7c15u64.wrapping_mul(thread + 1);
+    while !counts.is_over() {
+        number ^= number << 13;
+        number ^= number >> 7;
+        number ^= number << 17;
+        let before = READS.get();
+        look(pager, number % HOT * (PAGES / HOT))?;
+        counts.add(&counts.look_ups, 1);
+        counts.add(&counts.reads, READS.get() - before);
+        sleep(REST);
+    }
+    Ok(())
+}
+
+/// Scans again and again, with so many pages read ahead.
+fn scan(pager: &Shared, counts: &Counts, ahead: u64) -> Outcome<()> {
+    while !counts.is_over() {
+        if ahead > 0 {
+            pager.prefetch(0..ahead);
+        }
+        for page in 0..PAGES {
+            if ahead > 0 && page % STEP == 0 {
+                pager.prefetch(page + ahead..page + ahead + STEP);
+            }
+            look(pager, page)?;
+            counts.add(&counts.scanned, 1);
+            if counts.is_over() {
+                break;
+            }
+        }
+        counts.scans.fetch_add(1, Ordering::Relaxed);
+    }
+    Ok(())
+}
+
+/// What a run of scans came to.
+struct Run {
+    reads_for_look_up: f64,
+    rate: f64,
+    stats: Stats,
+}
+
+/// Scans, with pages read ahead by so many threads, beside so many that look pages up.
+fn run(
+    config: &SharedConfig,
+    pages: Pages,
+    (ahead, readers): (u64, usize),
+    look_ups: u64,
+    length: Duration,
+) -> Outcome<Run> {
+    let pager = Arc::new(SharedPager::new(config, Arc::new(pages))?);
+    let readers = pager.start_readers(readers)?;
+    let (pager, counts) = (&pager, &Counts::default());
+    scope(|threads| -> Outcome<()> {
+        let mut all = vec![threads.spawn(move || scan(pager, counts, ahead))];
+        let spawn = |thread| threads.spawn(move || look_up(pager, counts, thread));
+        all.extend((0..look_ups).map(spawn));
+        while counts.scans.load(Ordering::Relaxed) < BEFORE && !all[0].is_finished() {
+            sleep(REST);
+        }
+        counts.is_counting.store(true, Ordering::Relaxed);
+        sleep(length);
+        counts.is_over.store(true, Ordering::Relaxed);
+        for thread in all {
+            thread.join().map_err(|_| "a thread panicked")??;
+        }
+        Ok(())
+    })?;
+    drop(readers);
+    Ok(Run {
+        reads_for_look_up: Counts::of(&counts.reads) / Counts::of(&counts.look_ups),
+        rate: Counts::of(&counts.scanned) / length.as_secs_f64(),
+        stats: pager.stats(),
+    })
+}
+
+fn settings() -> SharedConfig {
+    SharedConfig::with_parts(PAGES, SIZE, FRAMES, PARTS)
+}
+
+/// The pages that must be read for look-ups beside scans.
+fn beside_look_ups(length: Duration) -> Outcome<()> {
+    println!(
+        "| K | Period | Remembered | Reads for a look-up | the same, 16 ahead | Scanned a second | 16 ahead | Pages remembered | KB |"
+    );
+    println!("{}|", "|---".repeat(9));
+    let (eighth, frames) = (FRAMES as u64 / 8, FRAMES as u64);
+    let rows = [
+        (2, eighth, 4 * frames, "4 times the frames"),
+        (2, eighth, 8 * frames, "8 times"),
+        (2, eighth, 16 * frames, "16 times"),
+        (2, eighth, WITHOUT_END, "without end"),
+        (2, 0, 8 * frames, "8 times"),
+        (2, 0, WITHOUT_END, "without end"),
+        (1, 0, 8 * frames, "8 times"),
+    ];
+    for (k, correlated, retained, name) in rows {
+        let config = SharedConfig {
+            k,
+            correlated,
+            retained,
+            ..settings()
+        };
+        let pages = Pages {
+            delay: None,
+            most: 1,
+        };
+        let plain = run(&config, pages.clone(), (0, 0), 2, length)?;
+        let ahead = run(&config, pages, (16, 4), 2, length)?;
+        println!(
+            "| {k} | {correlated} | {name} | {:.4} | {:.4} | {:.0} | {:.0} | {} | {} |",
+            plain.reads_for_look_up,
+            ahead.reads_for_look_up,
+            plain.rate,
+            ahead.rate,
+            plain.stats.remembered,
+            plain.stats.memory / 1024
+        );
+    }
+    Ok(())
+}
+
+/// What is gained by reading ahead where reads are slow.
+fn ahead(length: Duration) -> Outcome<()> {
+    println!("| Ahead | Threads | Pages of a read | Scanned a second | Times the plain scan |");
+    println!("{}|", "|---".repeat(5));
+    let mut plain = 0.0;
+    for (ahead, readers, most) in [
+        (0, 0, 1),
+        (32, 8, 1),
+        (32, 16, 1),
+        (64, 32, 1),
+        (32, 2, 16),
+        (64, 4, 16),
+    ] {
+        let pages = Pages {
+            delay: Some(SLOW),
+            most,
+        };
+        let run = run(&settings(), pages, (ahead, readers), 0, length)?;
+        if ahead == 0 {
+            plain = run.rate;
+        }
+        let times = run.rate / plain;
+        println!(
+            "| {ahead} | {readers} | {most} | {:.0} | {times:.1} |",
+            run.rate
+        );
+    }
+    Ok(())
+}
+
+/// The pages that are scanned where calls are timed.
+const MANY: u64 = 1_000_000;
+
+/// The mean and the greatest of some times, in nanoseconds.
+fn mean_and_greatest(times: &[Duration]) -> (u64, u64) {
+    let nanos = |it: &Duration| it.as_nanos() as u64;
+    let sum: u64 = times.iter().map(nanos).sum();
+    let greatest = times.iter().map(nanos).max();
+    (sum / times.len() as u64, greatest.unwrap_or(0))
+}
+
+/// Measures how long the purges of a pool take.
+fn purges() -> Outcome<()> {
+    let pool = Pool::new(&Config::new(MANY, 64, 1 << 16))?;
+    let (mut image, mut times, mut most) = ([0; 64], Vec::new(), 0);
+    for page in 0..MANY {
+        pool.tick(0, 1)?;
+        if let Fixed::Load { ticket, .. } = pool.fix(0, page, &mut image)? {
+            drop(pool.end_read(ticket, &image)?);
+        }
+        if page % 16 == 0 {
+            let began = Instant::now();
+            most = pool.purge(0)?.max(most);
+            times.push(began.elapsed());
+        }
+    }
+    let (mean, greatest) = mean_and_greatest(&times[times.len() / 2 + times.len() / 8..]);
+    println!("A purge: mean {mean} ns, greatest {greatest} ns, at most {most} pages");
+    Ok(())
+}
+
+/// Measures how long calls take, with this memory of pages that are away.
+fn calls(name: &str, retained: u64) -> Outcome<()> {
+    let config = SharedConfig {
+        retained,
+        ..SharedConfig::with_parts(MANY, 64, 1 << 16, 1)
+    };
+    let pager = SharedPager::new(&config, Nothing)?;
+    let mut times = Vec::with_capacity(MANY as usize);
+    for page in 0..MANY {
+        let began = Instant::now();
+        drop(pager.read(page)?);
+        times.push(began.elapsed());
+    }
+    let (mean, greatest) = mean_and_greatest(&times);
+    let stats = pager.stats();
+    let (greatest, remembered, memory) = (greatest / 1000, stats.remembered, stats.memory >> 20);
+    println!("| {name} | {mean} | {greatest} | {remembered} | {memory} |");
+    Ok(())
+}
+
+fn main() -> Outcome<()> {
+    let words: Vec<String> = std::env::args().skip(1).collect();
+    let words: Vec<&str> = words.iter().map(String::as_str).collect();
+    if words == ["calls"] {
+        println!("| Memory | Mean, ns | Greatest, us | Pages remembered | MB |");
+        println!("{}|", "|---".repeat(5));
+        calls("8 times the frames", 8 << 16)?;
+        calls("without end", WITHOUT_END)?;
+        return purges();
+    }
+    let (is_ahead, seconds) = match words.as_slice() {
+        ["ahead", rest @ ..] => (true, rest.first()),
+        rest => (false, rest.first()),
+    };
+    let seconds = seconds.map_or(Ok(3.0), |it| it.parse())?;
+    let length = Duration::try_from_secs_f64(seconds)?;
+    match is_ahead {
+        true => ahead(length),
+        false => beside_look_ups(length),
+    }
+}

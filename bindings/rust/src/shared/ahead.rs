@@ -1,0 +1,340 @@
+//! Pages that are read before a thread asks for them, by threads of the pager.
+use super::pager::SharedPager;
+use super::part::{Fix, Part};
+use super::pins::PASSES;
+use super::seats::list_of;
+use super::within::{self, Work};
+use super::work::{Reading, Writing};
+use crate::image::Image;
+use crate::{PageIo, Result};
+use std::collections::VecDeque;
+use std::io;
+use std::panic::{AssertUnwindSafe, catch_unwind};
+use std::sync::atomic::{AtomicBool, Ordering};
+use std::sync::{Arc, Condvar, Mutex, MutexGuard, PoisonError};
+use std::thread::{self, JoinHandle};
+
+/// The most pages that wait to be read.
+const MOST_WAITING: usize = 4096;
+/// So many pages are added in one go.
+const FEW: usize = 64;
+/// The pages that are to be read ahead, in the order in which they were asked for.
+#[derive(Default)]
+pub(super) struct Ahead {
+    state: Mutex<Wanted>,
+    comes: Condvar,
+}
+
+#[derive(Default)]
+struct Wanted {
+    pages: VecDeque<Want>,
+    /// The number of threads that read.
+    readers: usize,
+}
+
+/// A page that is to be read, and what was noted of it when it was asked for.
+#[derive(Clone, Copy, Default)]
+struct Want {
+    page: u64,
+    noted: u32,
+}
+
+impl Ahead {
+    fn lock(&self) -> MutexGuard<'_, Wanted> {
+        self.state.lock().unwrap_or_else(PoisonError::into_inner)
+    }
+
+    /// Adds as many of these pages as there is room for, and returns how many.
+    fn add(&self, pages: &[Want]) -> usize {
+        if pages.is_empty() {
+            return 0;
+        }
+        let mut wanted = self.lock();
+        let room = match wanted.readers > 0 {
+            true => MOST_WAITING - wanted.pages.len(),
+            false => 0,
+        };
+        let added = &pages[..room.min(pages.len())];
+        wanted.pages.extend(added);
+        drop(wanted);
+        match added.len() {
+            0 => {}
+            1 => self.comes.notify_one(),
+            _ => self.comes.notify_all(),
+        }
+        added.len()
+    }
+
+    /// Waits for pages to read: the first of a row, and how many there are side by side. It is None
+    /// where the calling thread is to end. What comes too late is left out.
+    fn next(
+        &self,
+        most: usize,
+        is_over: &AtomicBool,
+        is_late: impl Fn(Want) -> bool,
+    ) -> Option<(u64, usize)> {
+        let mut wanted = self.lock();
+        loop {
+            if is_over.load(Ordering::Relaxed) {
+                wanted.readers -= 1;
+                if wanted.readers == 0 {
+                    wanted.pages.clear();
+                }
+                return None;
+            }
+            if let Some(first) = wanted.pages.pop_front() {
+                if is_late(first) {
+                    continue;
+                }
+                let first = first.page;
+                let mut end = first + 1;
+                while end - first < most as u64 {
+                    let next = wanted.pages.front().filter(|it| it.page == end);
+                    if next.is_none_or(|it| is_late(*it)) {
+                        break;
+                    }
+                    wanted.pages.pop_front();
+                    end += 1;
+                }
+                return Some((first, (end - first) as usize));
+            }
+            let waited = self.comes.wait(wanted);
+            wanted = waited.unwrap_or_else(PoisonError::into_inner);
+        }
+    }
+
+    /// Has the threads end that look at this.
+    fn end(&self, is_over: &AtomicBool) {
+        // Under the lock: so none of them has looked and does not sleep yet.
+        let wanted = self.lock();
+        is_over.store(true, Ordering::Relaxed);
+        drop(wanted);
+        self.comes.notify_all();
+    }
+}
+
+impl<F> SharedPager<F> {
+    /// Has pages read that are in no frame, by the threads of
+    /// [`start_readers`](SharedPager::start_readers), and does not wait for that. It returns how many are
+    /// to be read: none where no such threads were started, and no more than have room among the 4,096
+    /// that may wait. Pages that are in frames or that the file does not have are left out. It goes on to the
+    /// end of `pages` while there is room.
+    ///
+    /// It is a hint. A page is not read where no page may make way for it, or one whose log record is
+    /// not durable would have to; nor where the device fails; nor if it came and went meanwhile, by a
+    /// thread that did not wait for it. Who asks for it then has it read, and gets the fault.
+    ///
+    /// A page that was read ahead has one reference, which its first use does not add to: see
+    /// [what counts as a reference](SharedPager#what-counts-as-a-reference). So ask for as many pages as are
+    /// used soon, such as 32 before the place of a scan, and not for a whole table.
+    pub fn prefetch(&self, pages: impl IntoIterator<Item = u64>) -> usize {
+        let (mut few, mut count, mut added) = ([Want::default(); FEW], 0, 0);
+        let want = |page| {
+            let (part, own) = self.place(page).ok()?;
+            let noted = part.seats.noted(own);
+            part.seats.of(own).is_none().then_some(Want { page, noted })
+        };
+        for page in pages.into_iter().filter_map(want) {
+            few[count] = page;
+            count += 1;
+            if count == FEW {
+                count = self.ahead.add(&few);
+                added += count;
+                if count < FEW {
+                    return added;
+                }
+                count = 0;
+            }
+        }
+        added + self.ahead.add(&few[..count])
+    }
+}
+
+/// Threads that read pages ahead. They end when this is dropped.
+#[must_use = "the threads end when this is dropped"]
+pub struct Readers {
+    end: Box<dyn Fn() + Send + Sync>,
+    threads: Vec<JoinHandle<()>>,
+}
+
+impl<F: PageIo + Send + Sync + 'static> SharedPager<F> {
+    /// Starts threads that read the pages which [`prefetch`](SharedPager::prefetch) asks for. Each reads
+    /// one page at a time, or as many side by side as [`PageIo::most_pages`] says by one call of
+    /// [`PageIo::read_pages`]. So where the device is slow to answer, as many reads are under way as there
+    /// are threads.
+    ///
+    /// Where a page has to be written out to make way, they do that. They make no log durable.
+    ///
+    /// # Errors
+    /// Where the system has no thread for it, or there is no memory.
+    pub fn start_readers(self: &Arc<Self>, count: usize) -> io::Result<Readers> {
+        // Here, so that a panic of the engine's is the caller's.
+        let most = self.most_in_a_row();
+        self.ahead.lock().pages.try_reserve(MOST_WAITING)?;
+        let is_over = Arc::new(AtomicBool::new(false));
+        let (pager, ends) = (Arc::clone(self), Arc::clone(&is_over));
+        let mut readers = Readers {
+            end: Box::new(move || pager.ahead.end(&ends)),
+            threads: Vec::new(),
+        };
+        readers.threads.try_reserve(count)?;
+        for _ in 0..count {
+            let (pager, is_over) = (Arc::clone(self), Arc::clone(&is_over));
+            let name = thread::Builder::new().name("hojzmated-reader".into());
+            self.ahead.lock().readers += 1;
+            match name.spawn(move || pager.read_wanted(&is_over, most)) {
+                Ok(thread) => readers.threads.push(thread),
+                Err(error) => {
+                    self.ahead.lock().readers -= 1;
+                    return Err(error);
+                }
+            }
+        }
+        Ok(readers)
+    }
+
+    fn read_wanted(&self, is_over: &AtomicBool, most: usize) {
+        let mut images = Image::default();
+        let is_late = |it: Want| {
+            let place = self.place(it.page);
+            place.is_ok_and(|(part, own)| part.seats.noted(own) != it.noted)
+        };
+        while let Some((first, count)) = self.ahead.next(most, is_over, is_late) {
+            if images.is_empty() {
+                // Without memory the pages are left to who asks for them.
+                images = Image::zeros(most * self.config().page_size).unwrap_or_default();
+            }
+            let read = || self.read_row(first, count, &mut images);
+            // The engine's code may panic, and is called again all the same.
+            let _ = catch_unwind(AssertUnwindSafe(read));
+        }
+    }
+}
+
+impl Drop for Readers {
+    fn drop(&mut self) {
+        (self.end)();
+        for thread in self.threads.drain(..) {
+            // Its panics were caught.
+            let _ = thread.join();
+        }
+    }
+}
+
+impl std::fmt::Debug for Readers {
+    fn fmt(&self, f: &mut std::fmt::Formatter<'_>) -> std::fmt::Result {
+        f.debug_struct("Readers")
+            .field("threads", &self.threads.len())
+            .finish_non_exhaustive()
+    }
+}
+
+/// What comes of asking for a page ahead.
+enum Began<'a> {
+    /// It is to be read.
+    Reads(Reading<'a>),
+    /// Another page has to be written out before, by who has no ticket.
+    Writes(u64, Writing<'a>),
+    /// The same, and nothing was begun.
+    WouldWrite,
+    /// It is in a frame, or cannot be read now.
+    Not,
+}
+
+impl Part {
+    /// Asks for a page that is to be read ahead, if it is away. The caller has tickets or none.
+    fn begin_ahead(&self, page: u64, has_tickets: bool) -> Result<Began<'_>> {
+        let mut state = self.with_image(self.lock())?;
+        if self.seats.of(page).is_some() {
+            return Ok(Began::Not);
+        }
+        self.make_way(&mut state, PASSES);
+        self.tick_for_call(&mut state)?;
+        // With this tick another page may be old enough to make way.
+        let victim = state.pool.victim();
+        if has_tickets && victim.is_some_and(|page| self.unsaved(&state, page).is_some()) {
+            state.unused_ticks += 1;
+            return Ok(Began::WouldWrite);
+        }
+        Ok(match self.ask(&mut state, page) {
+            Ok(Fix::Read(ticket)) => Began::Reads(Reading::ahead(self, state, ticket)),
+            Ok(Fix::Write(ticket)) => {
+                state.unused_ticks += 1;
+                let lsn = ticket.lsn();
+                Began::Writes(lsn, Writing::new(self, state, ticket, true))
+            }
+            Ok(Fix::Here(pass)) => {
+                let _ = state.pool.unfix_by(&pass);
+                Began::Not
+            }
+            Err(_) => {
+                // The next call of the part has the tick.
+                state.unused_ticks += 1;
+                Began::Not
+            }
+        })
+    }
+}
+
+impl<F: PageIo> SharedPager<F> {
+    /// Reads pages side by side ahead, as many at a time as can be begun without device work between.
+    fn read_row(&self, first: u64, count: usize, images: &mut [u8]) {
+        let end = first + count as u64;
+        let mut next = first;
+        while next < end && !images.is_empty() {
+            let Ok(mut row) = list_of(count) else {
+                return;
+            };
+            let begin = self.begin_row(next, end, &mut row);
+            next = begin + row.len().max(1) as u64;
+            if !row.is_empty() {
+                self.read_begun(begin, row, images);
+            }
+        }
+    }
+
+    /// Begins to read pages that are side by side and away, from a number on, and returns the first.
+    fn begin_row<'a>(&'a self, mut next: u64, end: u64, row: &mut Vec<Reading<'a>>) -> u64 {
+        let mut begin = next;
+        while next < end {
+            let Ok((part, own)) = self.place(next) else {
+                break;
+            };
+            match part.begin_ahead(own, !row.is_empty()) {
+                Ok(Began::Reads(reading)) => {
+                    row.push(reading);
+                    next += 1;
+                }
+                Ok(Began::Writes(lsn, writing)) => {
+                    let victim = part.in_file(writing.page().unwrap_or_default());
+                    if self.write_out(victim, lsn, writing).is_err() {
+                        break;
+                    }
+                }
+                Ok(Began::Not) if row.is_empty() => {
+                    next += 1;
+                    begin = next;
+                }
+                Ok(Began::Not | Began::WouldWrite) | Err(_) => break,
+            }
+        }
+        begin
+    }
+
+    /// Reads pages whose reads were begun. On every way out all of these end.
+    fn read_begun(&self, first: u64, row: Vec<Reading<'_>>, images: &mut [u8]) {
+        let (count, page_size) = (row.len(), self.config().page_size);
+        let images = &mut images[..count * page_size];
+        let work = Work::Pages(first, count as u64);
+        let read = within::call(self.number, work, || match count {
+            1 => self.io.read_page(first, images),
+            _ => self.io.read_pages(first, count, images),
+        });
+        if read.is_ok() {
+            for (reading, image) in row.into_iter().zip(images.chunks_exact(page_size)) {
+                // Without memory for it the page is away again.
+                let _ = reading.end_ahead(image);
+            }
+        }
+    }
+}

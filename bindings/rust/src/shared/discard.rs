@@ -1,0 +1,102 @@
+//! Pages of a shared pager that are dropped unwritten.
+use super::pager::SharedPager;
+use super::part::{Locked, Part, State};
+use crate::{Error, PageIo, PagerError, Result};
+use std::time::{Duration, Instant};
+
+impl<F: PageIo> SharedPager<F> {
+    /// Drops a page: it leaves its frame without being written out, and its references are
+    /// forgotten. It is for a page that is of no use any longer, as one of a table that is dropped or
+    /// of a file that is truncated. What was put there and is not on the device is lost, and holds
+    /// [`redo_from`](SharedPager::redo_from) back no longer. The device and the log are not called.
+    ///
+    /// It waits while the page is read or written out, and at most the
+    /// [`pin_wait`](super::SharedConfig::pin_wait) for other threads to let the page go. It returns
+    /// true if the page was in a frame.
+    ///
+    /// Make durable first what frees the page for good, as the commit record of the transaction that
+    /// drops its table: else it may come back, by a crash or by the end of a transaction that does not
+    /// commit, and lacks what was lost here. A page that is used again begins with
+    /// [`new_page`](SharedPager::new_page), and its first record has all of its bytes.
+    ///
+    /// # Errors
+    /// [`PagerError::Refused`] with [`OutOfPage`](Error::OutOfPage) where the file has no such page;
+    /// [`PagePinned`](Error::PagePinned) where a guard of the page was there for too long;
+    /// [`Busy`](Error::Busy) in a function of the engine. Then nothing has changed.
+    pub fn discard(&self, page: u64) -> Result<bool, PagerError> {
+        let (part, own) = self.place(page)?;
+        Ok(part.discard(own, self.config().pin_wait)?)
+    }
+
+    /// Drops so many pages from the first one on, in the order of the file, as
+    /// [`discard`](SharedPager::discard) does each. It returns how many of them were in frames.
+    ///
+    /// # Errors
+    /// [`PagerError::RefusedPage`] with those of [`discard`](SharedPager::discard), of the first page that
+    /// is refused: those before it were dropped, and it and those after it were not.
+    /// [`PagerError::Refused`] with [`OutOfPage`](Error::OutOfPage) where the file has not all of them:
+    /// then none was dropped.
+    pub fn discard_from(&self, first: u64, count: u64) -> Result<u64, PagerError> {
+        let end = first.checked_add(count).ok_or(Error::OutOfPage)?;
+        if end > self.config().pages {
+            return Err(Error::OutOfPage.into());
+        }
+        (first..end).try_fold(0, |resident, page| match self.discard(page) {
+            Ok(was_resident) => Ok(resident + u64::from(was_resident)),
+            Err(fault) => {
+                let error = fault.refusal();
+                Err(PagerError::RefusedPage { page, error })
+            }
+        })
+    }
+}
+
+impl Part {
+    fn discard(&self, own: u64, most: Duration) -> Result<bool> {
+        let mut began = None;
+        let mut state = self.lock();
+        loop {
+            if self.let_go(&mut state, own) {
+                match state.pool.discard(0, own) {
+                    Err(Error::Busy) => state = self.wait_for_work(state, own)?,
+                    Ok(was_resident) => {
+                        self.forget(state, own);
+                        return Ok(was_resident);
+                    }
+                    Err(error) => return Err(error),
+                }
+                continue;
+            }
+            let began = *began.get_or_insert_with(Instant::now);
+            let left = most.saturating_sub(began.elapsed());
+            if left.is_zero() {
+                return Err(Error::PagePinned);
+            }
+            let is_let_go = |state: &mut _| self.let_go(state, own);
+            state = self.wait_for_page(state, left, is_let_go);
+        }
+    }
+
+    /// Gives the pass of a page back if it is out and nobody uses the page. It returns true if it is
+    /// not out then.
+    fn let_go(&self, state: &mut State, own: u64) -> bool {
+        let seat = self.seats.of(own).map(|number| self.seats.seat(number));
+        let out = seat.filter(|it| it.word().is_out());
+        out.is_none_or(|seat| self.give_back(state, seat))
+    }
+
+    /// Notes that a page was discarded. If it was in a frame, that is free now.
+    fn forget(&self, mut state: Locked<'_>, own: u64) {
+        let Some(seat) = self.seats.of(own) else {
+            let now = state.now;
+            state.away.come(&self.seats, own, now);
+            self.seats.set_unknown(own, now);
+            return;
+        };
+        state.firsts.leave(seat);
+        let now = state.now;
+        state.free.take_discarded(&self.seats, own, seat, now);
+        drop(state);
+        self.wake_for_frame();
+    }
+}
