@@ -37,6 +37,28 @@ def write(text, *path):
         file.write(text)
 
 
+def edit(path, old, new):
+    """Replaces a text that has to stand in a file once."""
+    text = text_of(path)
+    if text.count(old) != 1:
+        raise Failed(f"{old!r} stands in {path} {text.count(old)} times, and not once")
+    write(text.replace(old, new), path)
+
+
+def make_edits(path, folder):
+    """Makes the edits that a file lists in a folder: a line 'file: PATH', and after it for each edit a line 'old: TEXT'
+    and a line 'new: TEXT'."""
+    name = old = None
+    for line in text_of(path).splitlines():
+        word, _, text = line.partition(":")
+        if word == "file":
+            name = os.path.join(folder, text.strip())
+        elif word == "old":
+            old = text.removeprefix(" ")
+        elif word == "new":
+            edit(name, old, text.removeprefix(" "))
+
+
 def ended(words, seconds=None, more=(), text="", **how):
     """Runs a command with more in its environment and a text on its input. Returns how it ended, with its output and
     errors as one text, if `how` does not say otherwise."""
