@@ -2,6 +2,7 @@ pub mod HistoryLaws
 pub mod KeptLaws
 pub mod LaggingLaws
 pub mod QueueLaws
+pub mod BlockLaws
 pub mod BlockSteps
 pub mod PassLaws
 pub mod PurgeLaws
@@ -9,4 +10,5 @@ pub mod PurgeWalk
 pub mod SeatListLaws
 pub mod SeatLaws
 pub mod SeatSteps
+pub mod TreeLaws
 pub mod YoungLaws

@@ -7,9 +7,9 @@ use Rattle.std.proofs.lemmas.Option.{none-some}
 use Rattle.std.proofs.lemmas.List.{get_or-set_same, get_or-set_other, get_or_past, length-set, length-replicate}
 use Rattle.std.proofs.lemmas.List.Sorted.{Contains-permutation}
 use Rattle.bp_references.specs.Candidates.{Candidate}
-use Rattle.bp_replacer.specs.Seats.{winner, seat_at, IsFirst, IsFirstAt, same_seat, Lags}
+use Rattle.bp_replacer.specs.Seats.{winner, seat_at, LeadsAll, IsFirst, IsFirstAt, same_seat, Lags}
 use Rattle.bp_replacer.specs.Young.{since, AreQueued, NoneBelow, AreYoung, Covers, AreCovered, IsHeld, IsLater, AreAnew, AreKnown, IsSettled, stray, astray}
-use Rattle.bp_replacer.proofs.SeatLaws.{leads_left, leads_right, leads_later, winner_is, winner_from_not_before}
+use Rattle.bp_replacer.proofs.SeatLaws.{leads_itself, leads_left, leads_right, leads_later, winner_is, winner_from_not_before}
 use Rattle.bp_replacer.proofs.LaggingLaws.{alike_seats, itself, nobody_lags, settled_lags}
 
 -- ---- the queue
@@ -160,6 +160,27 @@ module _ (known : List (Option Candidate)) (times : List ℕ) (seats : List (Opt
       let is : a ≡ b = alike_seats a b same in
       let first : IsFirst known (λ x. x.1 < time) b = subst (IsFirst known (λ x. x.1 < time)) (sym is_a ∙ is) f.first in
       with_hand b held first (λ x stands. (seat, sym is_b ∙ stands, (first.there x stands).2)) h
+
+  -- the one in hand, where it comes before all that are known
+  pub held_first : (root held : Option Candidate) → LeadsAll known root → winner held root ≡ held → IsHeld seats hand time held → IsFirst seats (λ x. x.1 < time) held
+  held_first root held l before h = record {
+    there = λ x is. (let at = h.there x is in (hand, at.0, at.1));
+    none_before = λ k y here old. elim (cases_eq k hand) [
+      | inl same ↦
+          let is : held ≡ Some y = h.aged y (subst (λ n. seat_at seats n ≡ Some y) same here) old in
+          subst (λ e. winner held e ≡ held) is (leads_itself held)
+      | inr free ↦ elim (c.covers k free) [
+        | inl lags ↦ after k y here (seat_at known k) refl lags
+        | inr waits ↦ (let young = waits y here in absurd (omega (arith, old, young.early, none k young.some)))
+      ]
+    ];
+  }
+    where
+      after : (k : ℕ) (y : Candidate) → seat_at seats k ≡ Some y → (at : Option Candidate) → seat_at known k ≡ at → Lags at (seat_at seats k) → winner held (Some y) ≡ held
+      after k y here None is lags = absurd (none-some y (sym lags ∙ here))
+      after k y here (Some x) is lags =
+          let behind : winner root (Some x) ≡ root = subst (λ e. winner root e ≡ root) is (l k) in
+          leads_later held root (Some y) before (leads_later root (Some x) (Some y) behind (winner_from_not_before x y (lags.not_before y here)))
 
   pub hand_alone : (held : Option Candidate) → IsFirst known (λ x. x.1 < time) None → IsHeld seats hand time held → IsFirst seats (λ x. x.1 < time) held
   hand_alone held f h = with_hand None held f (λ x is. absurd (none-some x is)) h

@@ -8,4 +8,5 @@ pub mod Young
 pub mod Kept
 pub mod Queue
 pub mod SeatList
+pub mod Tree
 pub mod Replay

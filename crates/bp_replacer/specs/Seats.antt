@@ -1,6 +1,6 @@
 -- Candidates that are entered by seats: each stands at a seat of its own, as a page stands in a
 -- frame.
-use Rattle.std.specs.Prelude.{◌≡◌, ◌⊎◌, ℕ, ◌*◌, ◌+◌, ◌-◌, ◌/◌, ◌≢◌, ◌<◌, ◌≤◌, ◌&&◌, ◌==◌, nat_lt, zero, suc, Bool, true, false, IsFalse, List, [], ◌∷◌, length, slice_index_or, set, Option, Some, None, if◌then◌else◌}
+use Rattle.std.specs.Prelude.{◌≡◌, ℕ, ◌≢◌, ◌<◌, ◌≤◌, ◌&&◌, ◌==◌, Bool, true, false, IsFalse, List, [], ◌∷◌, length, slice_index_or, set, Option, Some, None, if◌then◌else◌}
 use Rattle.bp_references.specs.Candidates.{Candidate, Entered, is_before}
 
 -- the candidates that are seated, by seats, and the correlated period
@@ -44,6 +44,10 @@ pub record IsFirst (seats : List (Option Candidate)) (P : Candidate → Type 0)
   pub none_before : (k : ℕ) (x : Candidate) → seat_at seats k ≡ Some x → P x
       → winner first (Some x) ≡ first
 
+-- nobody at the seats comes before this one
+abbrev pub LeadsAll : List (Option Candidate) → Option Candidate → Type 0
+LeadsAll seats first = (k : ℕ) → winner first (seat_at seats k) ≡ first
+
 -- somebody stands at this seat, and is that one
 pub record IsFirstAt (seats : List (Option Candidate)) (P : Candidate → Type 0)
     (seat : ℕ) : Type 0 where
@@ -69,48 +73,3 @@ pub record FollowsOn (known : Candidate) (here : Option Candidate) : Type 0 wher
 abbrev pub Lags : Option Candidate → Option Candidate → Type 0
 Lags None here = here ≡ None
 Lags (Some known) here = FollowsOn known here
-
--- ---- a tree of winners: below the node i stand the nodes 2 i and 2 i + 1
-
--- nobody stands there, or one who was last referenced before a time
-abbrev pub is_aged : ℕ → Option Candidate → Bool
-is_aged time None = true
-is_aged time (Some e) = nat_lt e.1 time
-
--- a node has the number of a seat; below the nodes stand the seats, each a node with its own number
-unfoldable pub node : List ℕ → ℕ → ℕ
-node nodes i =
-    if nat_lt i (length nodes) then slice_index_or nodes i 0 else i - length nodes
-
--- of the two nodes below, it has the one whose candidate comes first
-abbrev pub IsWon : List ℕ → List (Option Candidate) → ℕ → Type 0
-IsWon nodes seats i =
-    seat_at seats (node nodes i)
-    ≡ winner (seat_at seats (node nodes (2 * i))) (seat_at seats (node nodes (2 * i + 1)))
-
--- it has the number of one of the two nodes below
-abbrev pub IsFromBelow : List ℕ → ℕ → Type 0
-IsFromBelow nodes i =
-    (node nodes (2 * i) ≡ node nodes i) ⊎ (node nodes (2 * i + 1) ≡ node nodes i)
-
--- each node has the winner of the two nodes below it
-pub record IsTournament (nodes : List ℕ) (seats : List (Option Candidate)) : Type 0 where
-  pub length_is : length nodes ≡ length seats
-  pub from_below : (i : ℕ) → 1 ≤ i → i < length nodes → IsFromBelow nodes i
-  pub won : (i : ℕ) → 1 ≤ i → i < length nodes → IsWon nodes seats i
-
--- the node that stands so many steps above another
-abbrev pub above : ℕ → ℕ → ℕ
-above zero i = i
-above (suc steps) i = above steps i / 2
-
-abbrev pub IsBelow : ℕ → ℕ → Type 0
-IsBelow i j = (steps : ℕ) × (above steps j ≡ i)
-
--- the first of those below a node
-pub record IsFirstBelow (seats : List (Option Candidate)) (i : ℕ) (P : Candidate → Type 0)
-    (first : Option Candidate) : Type 0 where
-  pub there : (x : Candidate) → first ≡ Some x
-      → (k : ℕ) × IsBelow i (length seats + k) × (seat_at seats k ≡ Some x) × P x
-  pub none_before : (k : ℕ) (x : Candidate) → IsBelow i (length seats + k)
-      → seat_at seats k ≡ Some x → P x → winner first (Some x) ≡ first

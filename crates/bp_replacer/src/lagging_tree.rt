@@ -40,8 +40,8 @@ const SEATS_A_TAKE: usize = 128;
 /// Where one look took 16 walks already, and the tree may lag behind one in 16 of the seats, a pass takes the place of
 /// the next walk: the tree copies the seats of all that do not wait, each node is computed once from scratch, and who
 /// is too young waits anew. So it does where more than 64 and one in 128 of the seats came out of the queue in one
-/// look. So a pass comes to less than 32 nodes for each seat that was changed since the pass before, or 128 for each
-/// that came of age.
+/// look. So a pass copies some 16 seats for each that was changed since the pass before, or less than 128 for each that
+/// came of age.
 #[derive(Drop)]
 pub struct LaggingTree {
     seats: SeatList,
@@ -140,6 +140,25 @@ fn earlier(a: Seat, b: Seat) -> Seat
     }
 }
 
+// Returns true if there is a first candidate, and it comes before the second.
+fn leads(first: &Seat, second: &Seat) -> bool
+    ensures { IsTrue result → winner first.now second.now ≡ first.now }
+{
+    match (first, second) {
+        (None, _) => false,
+        (Some(_), None) => true,
+        (Some(x), Some(y)) => precedes(x, y),
+    }
+}
+
+// The K-th stamp of a candidate, or the greatest number where there is none.
+fn stamp_of(entry: &Seat) -> u64 {
+    match entry {
+        None => u64::MAX,
+        Some(candidate) => candidate.0,
+    }
+}
+
 // The seat that stays in hand, and the other: of those old enough, the first stays.
 fn sorted(seats: &SeatList, hand: usize, seat: usize, time: u64) -> (usize, usize)
     ensures { (result ≡ (hand, seat)) ⊎ (result ≡ (seat, hand)) }
@@ -194,14 +213,15 @@ impl LaggingTree {
     }
 
     /// Returns the first candidate of those last referenced before a time, or `None` where there is none. Whoever
-    /// waited apart and was last referenced before the time comes into hand, or into the tree. The tree catches up with
-    /// each seat that comes first in it wrongly, until one comes first rightly. After a pass the next look finds it.
+    /// waited apart and was last referenced before the time comes into hand, or into the tree. Where the one in hand comes
+    /// before whoever is first in the tree, rightly or not, it is the first. Else the tree catches up with each seat that
+    /// comes first in it wrongly, until one comes first rightly. After a pass the next look finds it.
     pub fn first_before(&mut self, time: u64) -> Seat
         ensures same { self.new ≡ self.old }
         ensures first { IsFirst self.new (λ e. e.1 < time) result }
     {
         let many = self.seats.len() / SEATS_A_TAKE + FEW_TAKEN;
-        let least = self.tree.least_stamp();
+        let least = stamp_of(&self.tree.first());
         let mut taken = 0usize;
         while let Some(seat) = self.young.take_below(time) {
             let (kept, other) = sorted(&self.seats, self.hand, seat, time);
@@ -218,6 +238,10 @@ impl LaggingTree {
                 all,
             );
             taken = taken.saturating_add(1);
+        }
+        let held = aged_at(&self.seats, self.hand, time);
+        if leads(&held, &self.tree.first()) {
+            return held;
         }
         let mut moved = 0usize;
         while moved < FEW_WALKS {

@@ -1,6 +1,7 @@
 //! LRU-K page replacement as a core uses it: reference histories, and candidates at numbered seats.
 #![tactic(auto)]
 
+mod block;
 pub mod histories;
 mod lagging_tree;
 mod marks;

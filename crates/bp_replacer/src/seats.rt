@@ -22,12 +22,13 @@ use std::marker::Model;
 /// and the others come into it, by a walk each. Where more come of age than 64 and one in 128 of the seats, a pass
 /// takes in the rest.
 ///
-/// A walk goes up as far as that changes what the tree knows, O(log frames) at most. `leave` takes none, nor does
-/// `enter` while the queue has room, but for a page whose newest reference is at the time 0. A pass looks at each seat
-/// and at one node for each, O(frames). For the seats that the tree lags behind `victim` takes 16 walks and a pass at
-/// most where these are one in 16, and else a walk for each. It looks again after each. The root knows the first, where
-/// its own page is old enough; else a look goes to O(log frames) nodes for each page in the tree that is too young, and
-/// never to more than two for each frame. The memory is taken once, by `new`: 83 bytes a seat.
+/// A walk looks at 16 seats at most, and goes up from there as far as that changes what the tree knows, O(log frames) at
+/// most. `leave` takes none, nor does `enter` while the queue has room, but for a page whose newest reference is at the
+/// time 0. A pass copies each seat, and computes one node for 16 of them, O(frames). For the seats that the tree lags
+/// behind `victim` takes 16 walks and a pass at most where these are one in 16, and else a walk for each. It looks again
+/// after each. The root knows the first, where its own page is old enough; else a look goes to O(log frames) nodes and
+/// 16 seats for each page in the tree that is too young, and never to a seat or a node twice. The memory is taken once,
+/// by `new`: 76 bytes a seat.
 #[derive(Drop)]
 pub struct Candidates {
     correlated: u64,

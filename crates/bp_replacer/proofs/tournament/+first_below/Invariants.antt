@@ -1,5 +1,5 @@
-use Rattle.std.proofs.Common.{◌*◌, ◌-◌, length}
+use Rattle.std.proofs.Common.{◌-◌, length}
 use Rattle.bp_replacer.proofs.tournament.+first_below.Given as goal
 
 abbrev pub decreases-first_below : goal.decreases-first_below
-decreases-first_below l = 2 * length l.seats.now - l.at
+decreases-first_below l = length l.nodes.now - l.at

@@ -1,6 +1,8 @@
-use Rattle.std.proofs.Common.{◌∙◌, ◌/◌, sym, inl, inr, arith}
+use Rattle.std.proofs.Common.{◌≡◌, ◌∙◌, ◌+◌, ◌/◌, refl, sym, subst, length, inl, inr, arith}
 use Rattle.bp_replacer.specs.Seats.{winner, seat_at}
-use Rattle.bp_replacer.proofs.SeatLaws.{node_inner, node_changed, IsRenewed, renewed_beside, won_up, won_settled, won_at_root}
+use Rattle.bp_replacer.specs.Tree.{blocks, node}
+use Rattle.bp_replacer.specs.Replay.{IsWonUpTo}
+use Rattle.bp_replacer.proofs.TreeLaws.{block_some, block_within, node_changed, IsRenewed, renewed_beside, won_up, won_settled, won_at_root}
 use Rattle.bp_replacer.proofs.tournament.replay.Goals as goal
 use Rattle.bp_replacer.proofs.tournament.replay.Goals.{After-winner-first}
 
@@ -10,8 +12,24 @@ known_above c =
     let seats = c.args.seats.now in
     let v = c.loop-at.invariant in
     renewed_beside c.loop-at.nodes seats c.loop-at.at c.beside.result c.winner-first.result (omega (arith, c.beside.ensures))
-    (elim c.winner-first.ensures.either [ inl a ↦ inl (a ∙ v.has) | inr b ↦ inr (b ∙ c.node-other.ensures) ])
-    (c.winner-first.ensures.first ∙ (λ i. winner (seat_at seats (v.has i)) (seat_at seats (c.node-other.ensures i))))
+    (elim c.winner-first.ensures.either [ inl a ↦ inl (a ∙ v.has) | inr b ↦ inr (b) ])
+    (c.winner-first.ensures.first ∙ (λ i. winner (seat_at seats (v.has i)) (seat_at seats (node c.loop-at.nodes c.beside.result))))
+
+pub bounds-nodes-at : goal.bounds-nodes-at
+bounds-nodes-at c = omega (arith, c.requires.changed.leaves.size, block_within (length c.args.seats.now) c.args.seat c.requires.seat)
+
+pub loop-at-init : goal.loop-at-init
+loop-at-init c =
+    let nodes = c.args.nodes.now in
+    let seats = c.args.seats.now in
+    let size = c.requires.changed.leaves.size in
+    let half : blocks (length seats) ≡ length nodes / 2 = omega (arith, size) in
+    record {
+      positive = omega (arith, half, block_some (length seats));
+      in_range = omega (arith, half, block_within (length seats) c.args.seat c.requires.seat);
+      has = refl;
+      changed = subst (λ n. IsWonUpTo nodes seats c.args.seat (n + c.args.seat / 16)) half c.requires.changed;
+    }
 
 pub loop-at-preserved : goal.loop-at-preserved
 loop-at-preserved c =
@@ -20,8 +38,8 @@ loop-at-preserved c =
     record {
       positive = omega arith;
       in_range = omega arith;
-      has = sym (node_changed c.loop-at.nodes (c.loop-at.at / 2) c.winner-first.result (omega (arith, v.changed.length_is)));
-      changed = won_up c.loop-at.nodes c.args.seats.now c.args.seat c.loop-at.at (omega (arith, c.requires.seat, v.changed.length_is)) (omega arith) (omega (arith, v.changed.length_is)) v.changed c.winner-first.result renewed;
+      has = sym (node_changed c.loop-at.nodes (c.loop-at.at / 2) c.winner-first.result (omega (arith, v.changed.leaves.size)));
+      changed = won_up c.loop-at.nodes c.args.seats.now c.args.seat c.loop-at.at c.requires.seat (omega arith) v.in_range v.changed c.winner-first.result renewed;
     }
 
 pub returns : goal.returns
@@ -31,7 +49,7 @@ pub returns-then-nodes-at : goal.returns-then-nodes-at
 returns-then-nodes-at c =
     let v = c.loop-at.invariant in
     let renewed = known_above (goal.at.returns-then-nodes-at c).After-winner-first in
-    let same = node_inner c.loop-at.nodes (c.loop-at.at / 2) (omega (arith, v.changed.length_is)) ∙ c.if-nodes-at.true in
+    let same = c.if-nodes-at.true in
     record {
-      won = won_settled c.loop-at.nodes c.args.seats.now c.args.seat c.loop-at.at (omega (arith, c.requires.seat, v.changed.length_is)) (omega arith) (omega (arith, v.changed.length_is)) v.changed c.winner-first.result renewed same c.if-first-seat.true;
+      won = won_settled c.loop-at.nodes c.args.seats.now c.args.seat c.loop-at.at c.requires.seat (omega arith) v.in_range v.changed c.winner-first.result renewed same c.if-first-seat.true;
     }

@@ -2,7 +2,8 @@ use Rattle.std.proofs.Common.{◌≡◌, ◌∙◌, ◌<◌, length, sym, ap, su
 use Rattle.std.proofs.lemmas.List.{length-set}
 use Rattle.bp_references.specs.Candidates.{Candidate}
 use Rattle.bp_replacer.specs.Seats.{IsFirst}
-use Rattle.bp_replacer.proofs.YoungLaws.{taken_others, taken_less, settled_covered, settled_early, settled_none_below, settled_less, first_stands}
+use Rattle.bp_replacer.specs.Young.{NoneBelow}
+use Rattle.bp_replacer.proofs.YoungLaws.{taken_others, taken_less, settled_covered, settled_early, settled_none_below, settled_less, first_stands, held_first}
 use Rattle.bp_replacer.proofs.lagging_tree.LaggingTree.first_before.Goals as goal
 use Rattle.bp_replacer.proofs.lagging_tree.LaggingTree.first_before.Goals.{After-settle}
 
@@ -27,6 +28,12 @@ loop-seat-preserved c =
       same = c.loop-seat.invariant.same;
       covered = settled_covered i.tree c.take_below.new.self i.seats c.sorted-kept.result.1 c.args.time c.settle.new.tree c.settle.new.young v.length_is (many (goal.at.loop-seat-preserved c).After-settle) c.settle.ensures c.sorted-kept.result.0 others;
     }
+
+pub returns-then-leads-clause-first : goal.returns-then-leads-clause-first
+returns-then-leads-clause-first c =
+    let i = c.loop-seat.self-inside in
+    let none = subst (λ times. NoneBelow times c.args.time) c.in_default.ensures.unchanged c.in_default.ensures.none_below in
+    held_first i.tree i.young i.seats i.hand c.loop-seat.invariant.covered c.args.time none c.first-2.result c.aged_at-held.result c.first-2.ensures (c.leads.ensures c.if-leads.true) c.aged_at-held.ensures
 
 pub returns-then-same_seat-clause-first : goal.returns-then-same_seat-clause-first
 returns-then-same_seat-clause-first c =

@@ -1,15 +1,18 @@
-use Rattle.std.proofs.Common.{◌≡◌, ◌≢◌, ◌∙◌, false, ap, sym, subst, length, ◌<◌, Some, None, List, Option, refl, inl, inr}
+use Rattle.std.proofs.Common.{◌≡◌, ◌≢◌, ◌∙◌, false, ap, sym, subst, length, arith, ◌<◌, Some, None, List, Option, refl, inl, inr}
 use Rattle.std.specs.Option.{is_some}
 use Rattle.std.proofs.lemmas.Bool.{cases_lt, true≢false}
 use Rattle.std.proofs.lemmas.List.{get_or_past}
 use Rattle.bp_references.specs.Candidates.{Candidate}
 use Rattle.bp_replacer.specs.Seats.{seat_at, IsFirst, IsFirstAt}
-use Rattle.bp_replacer.proofs.SeatLaws.{first_of_all}
+use Rattle.bp_replacer.proofs.TreeLaws.{block_some, first_of_all}
 use Rattle.bp_replacer.proofs.tournament.Tournament.first_before.Goals as goal
 
 nobody_there : (e : Option Candidate) → is_some e ≡ false → e ≡ None
 nobody_there None empty = refl
 nobody_there (Some e) full = absurd (true≢false full)
+
+pub first_below-first-requires-clause-in_range : goal.first_below-first-requires-clause-in_range
+first_below-first-requires-clause-in_range c = omega (arith, c.self.invariant.leaves.size, block_some (length c.self.inside.seats), ap length c.deref.ensures.value)
 
 pub returns-then-is_some-clause-found : goal.returns-then-is_some-clause-found
 returns-then-is_some-clause-found c =

@@ -1,10 +1,11 @@
 use Rattle.std.proofs.Common.{◌≤◌, length}
+use Rattle.bp_replacer.specs.Tree.{blocks}
 use Rattle.bp_replacer.specs.Replay.{IsWonFrom}
-use Rattle.bp_replacer.proofs.tournament.replay_from.Given as goal
+use Rattle.bp_replacer.proofs.tournament.replay_all.Given as goal
 
 abbrev pub invariant-loop-at : goal.invariant-loop-at
 invariant-loop-at l = record {
-  in_range : l.at ≤ length l.nodes;
+  in_range : l.at ≤ blocks (length l.seats);
   won : IsWonFrom l.nodes l.seats l.at;
 }
 
