@@ -30,7 +30,7 @@ fn read_row<K: Keeper>(
         return Err(Refusal::UnknownPass);
     };
     let pass = note.pass();
-    let read = core.read(&pass);
+    let read = core.read_into(&pass, 0, &mut []);
     pass.note();
     read?;
     Ok(())

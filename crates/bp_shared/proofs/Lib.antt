@@ -1,4 +1,5 @@
-pub mod Freeing
+pub mod Acting
+pub mod Refusing
 pub mod Stepping
 pub mod Turning
 pub mod Working

@@ -1,5 +1,5 @@
 -- What a client's list leaves out is out in the trail.
-use Rattle.std.proofs.Common.{◌≡◌, ◌≢◌, refl, sym, ap, subst, ◌∙◌, ℕ, Bool, true, false, not, ◌||◌, ◌&&◌, ◌==◌, List, [], ◌∷◌, ◌++◌, Option, Some, None, Result, Err}
+use Rattle.std.proofs.Common.{◌≡◌, ◌≢◌, refl, sym, ap, subst, ◌∙◌, ℕ, Bool, true, false, not, ◌||◌, ◌==◌, List, [], ◌∷◌, ◌++◌, Option, Some, None, Result, Err}
 use Rattle.std.proofs.lemmas.Bool.{true≢false, eq-eqb, and_from, false_from_ne_true}
 use native.Mathlib.Decide.{ℕ_discrete}
 use Rattle.bp_page.specs.declared.refusals.Refusal.{Refusal}

@@ -36,7 +36,7 @@ looks_on o from p mid found finds = record {
 }
 
 flush_on : (p : ℕ) (how : Flushed) (found new : SessionValue) → Flushes p (Ok how) found new → Later found new
-flush_on p how found new flushes = record { client = flushes.client; said = (flushes.said.piece, flushes.said.grows); seen = ([], flushes.seen) }
+flush_on p how found new flushes = record { client = flushes.client; said = (flushes.said.piece, flushes.said.grows); seen = flushes.seen }
 
 after_one : (p : ℕ) (how : Flushed) (o : Pool) (from : ℕ) (mid found new : SessionValue) → Finds o mid from (Some p) found → Flushes p (Ok how) found new → Later mid new
 after_one p how o from mid found new finds flushes = on mid found new (looks_on o from (Some p) mid found finds) (flush_on p how found new flushes)

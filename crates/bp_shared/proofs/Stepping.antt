@@ -72,3 +72,7 @@ marks_once client seen core done x said after is h = go (subst (λ r. LookOutcom
 pub not_looked : (A : Type 0) (client seen : ℕ) (core : CoreView) (why : Refusal) (said after : Trail) → LookOutcome client core seen (err A why) said after → (why ≡ refusal.TrailFull) × (after ≡ said)
 not_looked A client seen core refusal.TrailFull said after h = (refl, h.1)
 not_looked A client seen core _ said after h = absurd h
+
+pub not_refused_look : {A : Type 0} (done : Result A Refusal) → ((why : Refusal) → done ≡ Err why → ⊥) → (x : A) × (done ≡ Ok x)
+not_refused_look (Ok x) never = (x, refl)
+not_refused_look (Err why) never = absurd (never why refl)

@@ -422,7 +422,7 @@ told_still start past after client said t d = record {
 }
 
 -- ---- the board of what sessions saw
-goes_on_more : (start past after piece : Trail) → GoesOnFrom start past → after ≡ piece ++ past → GoesOnFrom start after
+pub goes_on_more : (start past after piece : Trail) → GoesOnFrom start past → after ≡ piece ++ past → GoesOnFrom start after
 goes_on_more start past after piece s grows = (piece ++ s.0, grows ∙ ap (λ es. piece ++ es) s.1 ∙ sym (append_assoc piece s.0 start))
 
 -- the trail got more entries

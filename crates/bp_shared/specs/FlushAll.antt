@@ -21,11 +21,11 @@ pub record Finds (o : Pool) (old : SessionValue) (from : ℕ) (page : Option ℕ
   pub sees : Sees o.parameters o.start old new
   pub found : FindsUnsaved o.parameters.pages from new.seen page
 
--- a page was flushed, which added to the session's list, and saw nothing more of the trail
+-- a page was flushed, which added to the session's list, and saw more of the trail
 pub record Flushes (page : ℕ) (answer : Result Flushed Refusal) (old new : SessionValue)
     : Type 0 where
   pub client : new.client ≡ old.client
-  pub seen : new.seen ≡ old.seen
+  pub seen : GoesOnFrom old.seen new.seen
   pub said : FlushSaid old.client page answer old.said new.said
 
 -- unsaved pages were flushed, one after the other: each was the first from where the one before it

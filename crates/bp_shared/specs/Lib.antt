@@ -3,5 +3,6 @@ pub mod Sessions
 pub mod Locked
 pub mod Taking
 pub mod Telling
+pub mod Keeping
 pub mod Posting
 pub mod FlushAll

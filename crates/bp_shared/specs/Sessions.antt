@@ -57,21 +57,6 @@ new_session client =
       kept = 0;
     }
 
--- a section of the session emptied its ring: now it knows all 32 places free
-abbrev pub AllFree : ℕ → ℕ → Type 0
-AllFree free after = (free ≤ 32) × (after ≡ 32)
-
--- a section of the session did so, or there was none
-abbrev pub MayFree : ℕ → ℕ → Type 0
-MayFree free after = (after ≡ free) ⊎ AllFree free after
-
--- in how many places of its ring a session knew no pass before a call, and after it: each call is a
--- section, but where it is refused for want of memory or for a pass, maybe before its first
-abbrev pub FreesRing : {A : Type 0} → Result A Refusal → ℕ → ℕ → Type 0
-FreesRing (Err refusal.OutOfMemory) free after = MayFree free after
-FreesRing (Err refusal.UnknownPass) free after = MayFree free after
-FreesRing _ free after = AllFree free after
-
 -- a new session for each client, in order
 abbrev pub new_sessions : ℕ → List SessionValue
 new_sessions zero = []

@@ -52,7 +52,8 @@ impl<N: PoolName, K: ListKeeper> ClosedPool<N, K> {
     /// `stats` hold of a trail that the pool had, with all entries of the client until then.
     ///
     /// So this core gave each answer that the list has, the client has no other entry, and a page is pinned while its
-    /// client's list holds a pass of it. Nothing is promised of a refusal that adds no entry.
+    /// client's list holds a pass of it. Where `TrailFull` or `ClockFull` was answered, the trail that the session saw had no
+    /// room, or its clock would have run over: that trail too is an older part of this one.
     pub fn end_session(&mut self, session: Session<N, K>) -> Book<K>
         ensures takes { TakesBack session.client self.old self.new }
         ensures client { result.client ≡ session.client }

@@ -9,7 +9,7 @@ use Rattle.bp_trail.specs.Lists.{EachEntry}
 use Rattle.bp_trail.specs.Legal.{Legal}
 use Rattle.bp_trail.specs.PageMap.{MayReply}
 use Rattle.bp_trail.specs.Pieces.Manner.{session}
-use Rattle.bp_trail.proofs.LegalLaws.{each-evicts, each-first, each-farthest, each-durable, each-answers}
+use Rattle.bp_trail.proofs.LegalLaws.{each-evicts, each-first, each-farthest, each-discards, each-durable, each-answers}
 use Rattle.bp_trail.proofs.Comparing.{of_client-reverse}
 use Rattle.bp_trail.proofs.InPieces.{bounded_by_its_row}
 use Rattle.bp_workers.specs.Scripts.{list_of}
@@ -26,6 +26,7 @@ rules-kept c trail legal = record {
   evictions = each-evicts c (reverse trail) legal;
   victims = each-first c (reverse trail) legal;
   farthest = each-farthest c (reverse trail) legal;
+  discards = each-discards c (reverse trail) legal;
   write_outs = each-durable c (reverse trail) legal;
   contents = each-answers c (reverse trail) legal;
 }

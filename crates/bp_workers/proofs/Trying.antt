@@ -4,8 +4,10 @@ use Rattle.bp_page.specs.declared.refusals.Refusal.{Refusal}
 use Rattle.bp_page.specs.declared.refusals.Refusal.TheVariants as refusal
 use Rattle.bp_core.specs.declared.passes.Pass.{Pass}
 use Rattle.bp_trail.specs.Trail.{Trail}
-use Rattle.bp_shared.specs.Sessions.{MayFree, FreesRing}
-use Rattle.bp_shared.proofs.Freeing.{freed, all_then, may_more}
+use Rattle.bp_trail.specs.Parameters.{Parameters}
+use Rattle.bp_shared.specs.Keeping.{MayAct, Acts}
+use Rattle.bp_shared.specs.Sessions.{SessionValue}
+use Rattle.bp_shared.proofs.Acting.{acted, all_then, may_more}
 use Rattle.bp_workers.specs.Tries.{Fixes, Ticks, GivesUp, GoesOn, Tries}
 use Rattle.bp_workers.specs.Tries.Tries.{again, at_last, fixed, given_up}
 
@@ -49,14 +51,15 @@ module _ (fixes : Fixes) (ticks : Ticks) (client page steps rounds : ℕ) where
   leads-end durable raised ticked done said now after answer leads all found =
       leads durable raised 0 answer after (omega arith) (omega (arith, all)) (at_last found)
 
--- what the session knows of its ring then
-pub gives-up-frees : (ticks : Ticks) (client steps durable : ℕ) (why : Refusal) (ticked : Bool) (answer : Refusal) (said after : Trail) (free mid last : ℕ) → GivesUp ticks client steps durable why ticked answer said after
-    → FreesRing {A = Pass} (Err why) free mid → MayFree mid last → FreesRing {A = Pass} (Err answer) free last
-gives-up-frees ticks client steps durable (refusal.NeedLog lsn) ticked answer said after free mid last h f m = freed {A = Pass} (Err answer) free last (all_then free mid last f m)
-gives-up-frees ticks client steps durable refusal.NoVictim ticked answer said after free mid last h f m = freed {A = Pass} (Err answer) free last (all_then free mid last f m)
-gives-up-frees ticks client steps durable refusal.OutOfMemory ticked answer said after free mid last h f m = subst (λ w. FreesRing {A = Pass} (Err w) free last) (sym h.0) (may_more free mid last f m)
-gives-up-frees ticks client steps durable refusal.UnknownPass ticked answer said after free mid last h f m = subst (λ w. FreesRing {A = Pass} (Err w) free last) (sym h.0) (may_more free mid last f m)
-gives-up-frees ticks client steps durable _ ticked answer said after free mid last h f m = freed {A = Pass} (Err answer) free last (all_then free mid last f m)
+-- what the session was shown then
+module _ (c : Parameters) (start : Trail) (old mid last : SessionValue) where
+  pub gives-up-acts : (ticks : Ticks) (client steps durable : ℕ) (why : Refusal) (ticked : Bool) (answer : Refusal) (said after : Trail) → GivesUp ticks client steps durable why ticked answer said after
+      → Acts {A = Pass} c start (Err why) old mid → MayAct c start mid last → Acts {A = Pass} c start (Err answer) old last
+  gives-up-acts ticks client steps durable (refusal.NeedLog lsn) ticked answer said after h a m = acted {A = Pass} c start (Err answer) old last (all_then c start old mid last a m)
+  gives-up-acts ticks client steps durable refusal.NoVictim ticked answer said after h a m = acted {A = Pass} c start (Err answer) old last (all_then c start old mid last a m)
+  gives-up-acts ticks client steps durable refusal.OutOfMemory ticked answer said after h a m = subst (λ w. Acts {A = Pass} c start (Err w) old last) (sym h.0) (may_more c start old mid last a m)
+  gives-up-acts ticks client steps durable refusal.UnknownPass ticked answer said after h a m = subst (λ w. Acts {A = Pass} c start (Err w) old last) (sym h.0) (may_more c start old mid last a m)
+  gives-up-acts ticks client steps durable _ ticked answer said after h a m = acted {A = Pass} c start (Err answer) old last (all_then c start old mid last a m)
 
 -- who gives up adds nothing
 pub gives-up-stays : (ticks : Ticks) (client steps durable : ℕ) (why : Refusal) (ticked : Bool) (answer : Refusal) (said after : Trail) → GivesUp ticks client steps durable why ticked answer said after → after ≡ said

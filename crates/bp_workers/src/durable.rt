@@ -1,7 +1,8 @@
 //! `fix_durably`: a fix that has the log made durable, or waits for a victim, and is tried again.
 ghost use Rattle.std.specs.Prelude.{◌≡◌, ◌<◌, false, OnOk, IfErr};
 ghost use Rattle.bp_page.specs.declared.refusals.Refusal.TheVariants as Refusal;
-ghost use Rattle.bp_shared.specs.Sessions.{DoesWorkSaid, FreesRing, MayFree};
+ghost use Rattle.bp_shared.specs.Keeping.{KeepsSession, MayAct};
+ghost use Rattle.bp_shared.specs.Sessions.{DoesWorkSaid};
 ghost use Rattle.bp_workers.specs.Logs.{RaisesWithin};
 ghost use Rattle.bp_workers.specs.Tries.{GivesUp, GoesOn, Tries};
 
@@ -23,7 +24,8 @@ pub trait Asked<N: PoolName, K: ListKeeper> {
     ghost use Rattle.std.specs.Prelude.{◌≡◌, ◌≢◌, ◌<◌};
     ghost use Rattle.bp_page.specs.declared.refusals.Refusal.TheVariants as Refusal;
     ghost use Rattle.bp_session_log.specs.Turns.{TickSaid};
-    ghost use Rattle.bp_shared.specs.Sessions.{DoesWorkSaid, FreesRing};
+    ghost use Rattle.bp_shared.specs.Keeping.{KeepsSession};
+    ghost use Rattle.bp_shared.specs.Sessions.{DoesWorkSaid};
     ghost use Rattle.bp_workers.specs.Tries.{Fixes, Ticks};
 
     // A fix of a page gives a client an answer, and leads from its list, as it was, to it, as it is.
@@ -44,10 +46,7 @@ pub trait Asked<N: PoolName, K: ListKeeper> {
     ) -> Result<Pass, Refusal>
         requires page_in { page < N.parameters.pages }
         requires port { (P.geometry_of port.old).size ≡ N.parameters.size }
-        ensures client { session.new.client ≡ session.old.client }
-        ensures before { session.new.before ≡ session.old.before }
-        ensures seen { session.new.seen ≡ session.old.seen }
-        ensures free { FreesRing result session.old.free session.new.free }
+        ensures keeps { KeepsSession N.parameters N.past result session.old session.new }
         ensures port { P.geometry_of port.new ≡ P.geometry_of port.old }
         ensures gives { fixes session.old.client page result session.old.said session.new.said }
         ensures known { result ≢ Err Refusal.UnknownTicket }
@@ -56,10 +55,7 @@ pub trait Asked<N: PoolName, K: ListKeeper> {
 
     /// Moves the clock on, as [`SharedPool::tick`] does.
     fn ask_tick<R: Wait>(&self, rt: &R, session: &mut Session<N, K>, n: u64) -> Result<(), Refusal>
-        ensures client { session.new.client ≡ session.old.client }
-        ensures before { session.new.before ≡ session.old.before }
-        ensures seen { session.new.seen ≡ session.old.seen }
-        ensures free { FreesRing result session.old.free session.new.free }
+        ensures keeps { KeepsSession N.parameters N.past result session.old session.new }
         ensures gives { ticks session.old.client n result session.old.said session.new.said }
         ensures outcome { TickSaid session.old.client n result session.old.said session.new.said };
 }
@@ -205,8 +201,7 @@ fn overcome<N: PoolName, K: ListKeeper, A: Asked<N, K>, L: DurableLog<N>, R: Wai
 ) -> Result<(), Refusal>
     ensures client { session.new.client ≡ session.old.client }
     ensures before { session.new.before ≡ session.old.before }
-    ensures seen { session.new.seen ≡ session.old.seen }
-    ensures free { MayFree session.old.free session.new.free }
+    ensures acts { MayAct N.parameters N.past session.old session.new }
     ensures lent { L.lent log.new ≡ L.lent log.old }
     ensures raises { RaisesWithin (L.durable_to log.old) (L.raised_to log.old)
         (L.durable_to log.new) (L.raised_to log.new) }
@@ -257,10 +252,8 @@ pub fn fix_durably<N: PoolName, P: Port, K: ListKeeper, A: Asked<N, K>, L: Durab
     patience: Patience,
 ) -> Result<Pass, Refusal>
     requires page_in { page < N.parameters.pages }
-    ensures client { client.new.session.client ≡ client.old.session.client }
-    ensures before { client.new.session.before ≡ client.old.session.before }
-    ensures seen { client.new.session.seen ≡ client.old.session.seen }
-    ensures free { FreesRing result client.old.session.free client.new.session.free }
+    ensures keeps { KeepsSession N.parameters N.past result
+        client.old.session client.new.session }
     ensures port { P.geometry_of client.new.port ≡ P.geometry_of client.old.port }
     ensures lent { L.lent log.new ≡ L.lent log.old }
     ensures raises { RaisesWithin (L.durable_to log.old) (L.raised_to log.old)

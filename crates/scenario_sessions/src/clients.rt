@@ -163,7 +163,7 @@ fn read_into<N: PoolName, K: Kind, R: Wait>(
     bytes_read(read, span)
 }
 
-/// Writes the bytes of a line, as a list or from a slice, if they fit a page.
+/// Writes the bytes of a line, if they fit a page.
 fn write<N: PoolName, K: Kind, R: Wait>(
     rt: &R,
     pool: &SharedPool<N, K>,
@@ -182,11 +182,7 @@ fn write<N: PoolName, K: Kind, R: Wait>(
     match u32::try_from(offset) {
         Ok(offset) if fits => {
             let lsn = Lsn::new(lsn);
-            let written = match call.verb {
-                Verb::WriteFrom => pool.write_from(rt, session, pass, offset, bytes.bytes(), lsn),
-                _ => pool.write(rt, session, pass, offset, bytes, lsn),
-            };
-            done(written)
+            done(pool.write_from(rt, session, pass, offset, bytes.bytes(), lsn))
         }
         _ => Answer::BadLine,
     }

@@ -174,7 +174,7 @@ pub fn write<N: PoolName, P: Port, K: ListKeeper, R: Wait>(
         return Err(Refusal::OutOfPage);
     }
     let pass = note.pass();
-    let wrote = pool.write(rt, &mut client.session, &pass, 0, &bytes, Lsn::new(lsn));
+    let wrote = pool.write_from(rt, &mut client.session, &pass, 0, &[byte], Lsn::new(lsn));
     pass.note();
     wrote
 }

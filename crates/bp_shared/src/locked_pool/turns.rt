@@ -1,6 +1,6 @@
 //! The events of a session, each in a critical section whose rings are drained. The session's list gets the event too;
-//! a fix and a flush first look at the mark once. The list is then written on the session's line of the board. None
-//! takes memory for the list: what an event wants there is taken before the lock.
+//! a fix and a flush first look at the mark once. At the end both lines of the session are written, with its list and
+//! with the trail. None takes memory for the list: what an event wants there is taken before the lock.
 ghost use Rattle.std.specs.Prelude.{◌≡◌, ◌≢◌, ◌+◌, ◌%◌, ◌^◌, ◌<◌, ◌≤◌, false, length, IfOk};
 ghost use Rattle.bp_session_log.specs.Books.{OwesRead, OwesWrite};
 ghost use Rattle.bp_session_log.specs.Turns.{FixTurn, FlushTurn, DiscardTurn, EndReadOutcome, EndWriteOutcome};
@@ -8,12 +8,14 @@ ghost use Rattle.bp_session_log.specs.Turns.{TickSaid, PurgeSaid, ReadSaid, Read
 ghost use Rattle.bp_session_log.specs.Causes.{EndsRead, EndsWrite};
 ghost use Rattle.bp_core.specs.Outcomes.{DiscardOutcome, TickOutcome, PurgeOutcome, ReadOutcome};
 ghost use Rattle.bp_core.specs.Outcomes.{pass_is_out, ReadIntoOutcome, WriteOutcome};
+ghost use Rattle.bp_trail.specs.Clock.{clock};
+ghost use Rattle.bp_shared.specs.Keeping.{Acted, FillsRoom};
 ghost use Rattle.bp_shared.specs.Locked.{Enters, InStep, FixStep, FlushStep};
 
 use super::LockedPool;
 use crate::names::PoolName;
-use crate::session::{Session, Told};
-use bp_core::{Discarded, Ended, Pass};
+use crate::session::{Past, Session, Told};
+use bp_core::{Discarded, Ended, Pass, PoolCore};
 use bp_keeper::ListKeeper;
 use bp_mark::Mark;
 use bp_page::{Image, Lsn, PageNo, PortFault, Refusal};
@@ -35,17 +37,27 @@ impl<N: PoolName, K: ListKeeper> LockedPool<N, K> {
         requires copies { 2 ≤ session.old.copies }
         ensures client { session.new.client ≡ session.old.client }
         ensures before { session.new.before ≡ session.old.before }
-        ensures seen { session.new.seen ≡ session.old.seen }
-        ensures free { session.new.free ≡ session.old.free }
+        ensures acted { Acted N.parameters N.past session.old session.new }
         ensures ends { self.new.ends ≡ self.old.ends }
         ensures turn { FixTurn session.old.client page result session.old.said session.new.said }
+        ensures room { result ≡ Err Refusal.TrailFull → FillsRoom 3 N.parameters session.new.seen }
         ensures in_step { InStep (FixStep session.old.client page self.new.seen result)
             self.old session.old.said self.new session.new.said }
     {
-        session.book.look(&mut self.core, &mut self.reader, mark)?;
+        if let Err(refusal) = session.book.look(&mut self.core, &mut self.reader, mark) {
+            self.board
+                .write::<Book<K>, Told>(&mut session.line, &session.book);
+            self.seen
+                .write::<PoolCore<K>, Past>(&mut session.seen, &self.core);
+            self.core.keeps_the_rules();
+            return Err(refusal);
+        }
         let answer = session.book.ask_fix(&mut self.core, page);
         self.board
             .write::<Book<K>, Told>(&mut session.line, &session.book);
+        self.seen
+            .write::<PoolCore<K>, Past>(&mut session.seen, &self.core);
+        self.core.keeps_the_rules();
         answer
     }
 
@@ -64,17 +76,27 @@ impl<N: PoolName, K: ListKeeper> LockedPool<N, K> {
         requires copies { 2 ≤ session.old.copies }
         ensures client { session.new.client ≡ session.old.client }
         ensures before { session.new.before ≡ session.old.before }
-        ensures seen { session.new.seen ≡ session.old.seen }
-        ensures free { session.new.free ≡ session.old.free }
+        ensures acted { Acted N.parameters N.past session.old session.new }
         ensures ends { self.new.ends ≡ self.old.ends }
         ensures turn { FlushTurn session.old.client page result session.old.said session.new.said }
+        ensures room { result ≡ Err Refusal.TrailFull → FillsRoom 2 N.parameters session.new.seen }
         ensures in_step { InStep (FlushStep session.old.client page self.new.seen result)
             self.old session.old.said self.new session.new.said }
     {
-        session.book.look(&mut self.core, &mut self.reader, mark)?;
+        if let Err(refusal) = session.book.look(&mut self.core, &mut self.reader, mark) {
+            self.board
+                .write::<Book<K>, Told>(&mut session.line, &session.book);
+            self.seen
+                .write::<PoolCore<K>, Past>(&mut session.seen, &self.core);
+            self.core.keeps_the_rules();
+            return Err(refusal);
+        }
         let answer = session.book.ask_flush(&mut self.core, page);
         self.board
             .write::<Book<K>, Told>(&mut session.line, &session.book);
+        self.seen
+            .write::<PoolCore<K>, Past>(&mut session.seen, &self.core);
+        self.core.keeps_the_rules();
         answer
     }
 
@@ -91,8 +113,7 @@ impl<N: PoolName, K: ListKeeper> LockedPool<N, K> {
         requires size { IfOk read (λ image. length image ≡ N.parameters.size) }
         ensures client { session.new.client ≡ session.old.client }
         ensures before { session.new.before ≡ session.old.before }
-        ensures seen { session.new.seen ≡ session.old.seen }
-        ensures free { session.new.free ≡ session.old.free }
+        ensures acted { Acted N.parameters N.past session.old session.new }
         ensures outcome { EndReadOutcome ticket read result session.old.said session.new.said }
         ensures ends { self.new.ends ≡ (self.old.ends + 1) % 2 ^ 64 }
         ensures known { result ≢ Err Refusal.UnknownTicket }
@@ -103,6 +124,9 @@ impl<N: PoolName, K: ListKeeper> LockedPool<N, K> {
         self.ends = self.ends.wrapping_add(1);
         self.board
             .write::<Book<K>, Told>(&mut session.line, &session.book);
+        self.seen
+            .write::<PoolCore<K>, Past>(&mut session.seen, &self.core);
+        self.core.keeps_the_rules();
         ended
     }
 
@@ -117,8 +141,7 @@ impl<N: PoolName, K: ListKeeper> LockedPool<N, K> {
         requires owes { OwesWrite session.old.client ticket session.old.said }
         ensures client { session.new.client ≡ session.old.client }
         ensures before { session.new.before ≡ session.old.before }
-        ensures seen { session.new.seen ≡ session.old.seen }
-        ensures free { session.new.free ≡ session.old.free }
+        ensures acted { Acted N.parameters N.past session.old session.new }
         ensures outcome { EndWriteOutcome ticket written result session.old.said session.new.said }
         ensures ends { self.new.ends ≡ (self.old.ends + 1) % 2 ^ 64 }
         ensures known { result ≢ Err Refusal.UnknownTicket }
@@ -129,6 +152,9 @@ impl<N: PoolName, K: ListKeeper> LockedPool<N, K> {
         self.ends = self.ends.wrapping_add(1);
         self.board
             .write::<Book<K>, Told>(&mut session.line, &session.book);
+        self.seen
+            .write::<PoolCore<K>, Past>(&mut session.seen, &self.core);
+        self.core.keeps_the_rules();
         ended
     }
 
@@ -137,17 +163,22 @@ impl<N: PoolName, K: ListKeeper> LockedPool<N, K> {
         requires room { 0 < session.old.room }
         ensures client { session.new.client ≡ session.old.client }
         ensures before { session.new.before ≡ session.old.before }
-        ensures seen { session.new.seen ≡ session.old.seen }
-        ensures free { session.new.free ≡ session.old.free }
+        ensures acted { Acted N.parameters N.past session.old session.new }
         ensures ends { self.new.ends ≡ self.old.ends }
         ensures outcome { TickSaid session.old.client n result session.old.said session.new.said }
         ensures memory { result ≢ Err Refusal.OutOfMemory }
+        ensures room { result ≡ Err Refusal.TrailFull → FillsRoom 1 N.parameters session.new.seen }
+        ensures clock { result ≡ Err Refusal.ClockFull
+            → 2 ^ 62 < clock session.new.seen + n }
         ensures in_step { InStep (λ core after. TickOutcome core session.old.client n result after)
             self.old session.old.said self.new session.new.said }
     {
         let answer = session.book.ask_tick(&mut self.core, n);
         self.board
             .write::<Book<K>, Told>(&mut session.line, &session.book);
+        self.seen
+            .write::<PoolCore<K>, Past>(&mut session.seen, &self.core);
+        self.core.keeps_the_rules();
         answer
     }
 
@@ -162,11 +193,12 @@ impl<N: PoolName, K: ListKeeper> LockedPool<N, K> {
         requires room { 0 < session.old.room }
         ensures client { session.new.client ≡ session.old.client }
         ensures before { session.new.before ≡ session.old.before }
-        ensures seen { session.new.seen ≡ session.old.seen }
-        ensures free { session.new.free ≡ session.old.free }
+        ensures acted { Acted N.parameters N.past session.old session.new }
         ensures ends { self.new.ends ≡ self.old.ends }
         ensures turn { DiscardTurn session.old.client page result
             session.old.said session.new.said }
+        ensures memory { result ≢ Err Refusal.OutOfMemory }
+        ensures room { result ≡ Err Refusal.TrailFull → FillsRoom 1 N.parameters session.new.seen }
         ensures in_step { InStep
             (λ core after. DiscardOutcome core session.old.client page result after)
             self.old session.old.said self.new session.new.said }
@@ -174,6 +206,9 @@ impl<N: PoolName, K: ListKeeper> LockedPool<N, K> {
         let answer = session.book.ask_discard(&mut self.core, page);
         self.board
             .write::<Book<K>, Told>(&mut session.line, &session.book);
+        self.seen
+            .write::<PoolCore<K>, Past>(&mut session.seen, &self.core);
+        self.core.keeps_the_rules();
         answer
     }
 
@@ -183,17 +218,20 @@ impl<N: PoolName, K: ListKeeper> LockedPool<N, K> {
         requires room { 0 < session.old.room }
         ensures client { session.new.client ≡ session.old.client }
         ensures before { session.new.before ≡ session.old.before }
-        ensures seen { session.new.seen ≡ session.old.seen }
-        ensures free { session.new.free ≡ session.old.free }
+        ensures acted { Acted N.parameters N.past session.old session.new }
         ensures ends { self.new.ends ≡ self.old.ends }
         ensures outcome { PurgeSaid session.old.client result session.old.said session.new.said }
         ensures memory { result ≢ Err Refusal.OutOfMemory }
+        ensures room { result ≡ Err Refusal.TrailFull → FillsRoom 1 N.parameters session.new.seen }
         ensures in_step { InStep (λ core after. PurgeOutcome core session.old.client result after)
             self.old session.old.said self.new session.new.said }
     {
         let answer = session.book.ask_purge(&mut self.core);
         self.board
             .write::<Book<K>, Told>(&mut session.line, &session.book);
+        self.seen
+            .write::<PoolCore<K>, Past>(&mut session.seen, &self.core);
+        self.core.keeps_the_rules();
         answer
     }
 
@@ -212,17 +250,20 @@ impl<N: PoolName, K: ListKeeper> LockedPool<N, K> {
             → pass_is_out pass.now session.old.said ≡ false }
         ensures client { session.new.client ≡ session.old.client }
         ensures before { session.new.before ≡ session.old.before }
-        ensures seen { session.new.seen ≡ session.old.seen }
-        ensures free { session.new.free ≡ session.old.free }
+        ensures acted { Acted N.parameters N.past session.old session.new }
         ensures ends { self.new.ends ≡ self.old.ends }
         ensures outcome { ReadSaid session.old.client pass.now result
             session.old.said session.new.said }
+        ensures room { result ≡ Err Refusal.TrailFull → FillsRoom 1 N.parameters session.new.seen }
         ensures in_step { InStep (λ core after. ReadOutcome core pass.now result after)
             self.old session.old.said self.new session.new.said }
     {
         let answer = session.book.ask_read(&mut self.core, pass);
         self.board
             .write::<Book<K>, Told>(&mut session.line, &session.book);
+        self.seen
+            .write::<PoolCore<K>, Past>(&mut session.seen, &self.core);
+        self.core.keeps_the_rules();
         answer
     }
 
@@ -243,12 +284,12 @@ impl<N: PoolName, K: ListKeeper> LockedPool<N, K> {
             → pass_is_out pass.now session.old.said ≡ false }
         ensures client { session.new.client ≡ session.old.client }
         ensures before { session.new.before ≡ session.old.before }
-        ensures seen { session.new.seen ≡ session.old.seen }
-        ensures free { session.new.free ≡ session.old.free }
+        ensures acted { Acted N.parameters N.past session.old session.new }
         ensures ends { self.new.ends ≡ self.old.ends }
         ensures outcome { ReadIntoSaid session.old.client pass.now offset into.old result into.new
             session.old.said session.new.said }
         ensures memory { K.REFUSES ≡ false → result ≢ Err Refusal.OutOfMemory }
+        ensures room { result ≡ Err Refusal.TrailFull → FillsRoom 1 N.parameters session.new.seen }
         ensures in_step { InStep
             (λ core after. ReadIntoOutcome core pass.now offset into.old result into.new after)
             self.old session.old.said self.new session.new.said }
@@ -258,6 +299,9 @@ impl<N: PoolName, K: ListKeeper> LockedPool<N, K> {
             .ask_read_into(&mut self.core, pass, offset, into);
         self.board
             .write::<Book<K>, Told>(&mut session.line, &session.book);
+        self.seen
+            .write::<PoolCore<K>, Past>(&mut session.seen, &self.core);
+        self.core.keeps_the_rules();
         answer
     }
 
@@ -280,12 +324,12 @@ impl<N: PoolName, K: ListKeeper> LockedPool<N, K> {
             → pass_is_out pass.now session.old.said ≡ false }
         ensures client { session.new.client ≡ session.old.client }
         ensures before { session.new.before ≡ session.old.before }
-        ensures seen { session.new.seen ≡ session.old.seen }
-        ensures free { session.new.free ≡ session.old.free }
+        ensures acted { Acted N.parameters N.past session.old session.new }
         ensures ends { self.new.ends ≡ self.old.ends }
         ensures outcome { WriteSaid session.old.client pass.now offset bytes.now lsn result
             session.old.said session.new.said }
         ensures memory { K.REFUSES ≡ false → result ≢ Err Refusal.OutOfMemory }
+        ensures room { result ≡ Err Refusal.TrailFull → FillsRoom 1 N.parameters session.new.seen }
         ensures in_step { InStep
             (λ core after. WriteOutcome core pass.now offset bytes.now lsn result after)
             self.old session.old.said self.new session.new.said }
@@ -295,6 +339,9 @@ impl<N: PoolName, K: ListKeeper> LockedPool<N, K> {
             .ask_write(&mut self.core, pass, offset, bytes, lsn, spare);
         self.board
             .write::<Book<K>, Told>(&mut session.line, &session.book);
+        self.seen
+            .write::<PoolCore<K>, Past>(&mut session.seen, &self.core);
+        self.core.keeps_the_rules();
         answer
     }
 }

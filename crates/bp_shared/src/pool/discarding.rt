@@ -9,9 +9,10 @@ use bp_page::{PageNo, Refusal};
 use std::sync::Wait;
 
 impl<N: PoolName, K: ListKeeper> SharedPool<N, K> {
-    ghost use Rattle.std.specs.Prelude.{◌≡◌, ◌<◌};
+    ghost use Rattle.std.specs.Prelude.{◌≡◌, ◌≢◌, ◌<◌, false, length};
     ghost use Rattle.bp_session_log.specs.Turns.{DiscardTurn};
-    ghost use Rattle.bp_shared.specs.Sessions.{DiscardSaid, FreesRing};
+    ghost use Rattle.bp_shared.specs.Sessions.{DiscardSaid, IsRoomy};
+    ghost use Rattle.bp_shared.specs.Keeping.{KeepsSession, FillsRoom};
 
     /// Takes the memory for one more event, and asks that a page leave its frame, in one critical section. `Busy` and
     /// `OutOfMemory` as from `ask_fix`.
@@ -22,12 +23,12 @@ impl<N: PoolName, K: ListKeeper> SharedPool<N, K> {
         page: PageNo,
     ) -> Result<Discarded, Refusal>
         requires page_in { page < N.parameters.pages }
-        ensures client { session.new.client ≡ session.old.client }
-        ensures before { session.new.before ≡ session.old.before }
-        ensures seen { session.new.seen ≡ session.old.seen }
-        ensures free { FreesRing result session.old.free session.new.free }
+        ensures keeps { KeepsSession N.parameters N.past result session.old session.new }
         ensures turn { DiscardTurn session.old.client page result
             session.old.said session.new.said }
+        ensures room { result ≡ Err Refusal.TrailFull → FillsRoom 1 N.parameters session.new.seen }
+        ensures memory { K.REFUSES ≡ false → IsRoomy session.old
+            → result ≢ Err Refusal.OutOfMemory }
     {
         session.book.reserve_for_event()?;
         let mut state = self.lock_and_drain(rt, session);
@@ -41,7 +42,8 @@ impl<N: PoolName, K: ListKeeper> SharedPool<N, K> {
     /// waits for the end of some device work and asks again. It looks at no mark.
     ///
     /// The session's list gets the events as the trail does. `Pinned`, where a client holds a pass of the page, is the
-    /// reply of the last one; `TrailFull` and `OutOfMemory` as from `fix`.
+    /// reply of the last one; `TrailFull` and `OutOfMemory` as from `fix`. A silent session answers `OutOfMemory` only where
+    /// what it keeps for itself has to grow, or after it met `Busy`.
     pub fn discard<R: Wait>(
         &self,
         rt: &R,
@@ -49,12 +51,12 @@ impl<N: PoolName, K: ListKeeper> SharedPool<N, K> {
         page: PageNo,
     ) -> Result<Discarded, Refusal>
         requires page_in { page < N.parameters.pages }
-        ensures client { session.new.client ≡ session.old.client }
-        ensures before { session.new.before ≡ session.old.before }
-        ensures seen { session.new.seen ≡ session.old.seen }
-        ensures free { FreesRing result session.old.free session.new.free }
+        ensures keeps { KeepsSession N.parameters N.past result session.old session.new }
         ensures outcome { DiscardSaid session.old.client page result
             session.old.said session.new.said }
+        ensures room { result ≡ Err Refusal.TrailFull → FillsRoom 1 N.parameters session.new.seen }
+        ensures memory { K.REFUSES ≡ false → IsRoomy session.old → result ≡ Err Refusal.OutOfMemory
+            → length session.old.said < length session.new.said }
     {
         for _ in rt.forever() {
             match self.ask_discard(rt, session, page) {

@@ -17,7 +17,8 @@ impl<N: PoolName, K: ListKeeper> SharedPool<N, K> {
     ghost use Rattle.bp_session_log.specs.Books.{OwesRead, OwesWrite};
     ghost use Rattle.bp_session_log.specs.Turns.{FixTurn, LoadOutcome, WriteOutOutcome};
     ghost use Rattle.bp_core.specs.Work.{MadeBlank};
-    ghost use Rattle.bp_shared.specs.Sessions.{AllFree, DoesWorkSaid, FixSaid, FreesRing};
+    ghost use Rattle.bp_shared.specs.Sessions.{DoesWorkSaid, FixSaid};
+    ghost use Rattle.bp_shared.specs.Keeping.{Acted, KeepsSession, FillsRoom};
 
     /// Brings a page's image with no lock held, ends the read, and wakes all that wait.
     fn load<P: Port, S: Source<P>, R: Wait>(
@@ -32,8 +33,7 @@ impl<N: PoolName, K: ListKeeper> SharedPool<N, K> {
         requires port { (P.geometry_of port.old).size ≡ N.parameters.size }
         ensures client { session.new.client ≡ session.old.client }
         ensures before { session.new.before ≡ session.old.before }
-        ensures seen { session.new.seen ≡ session.old.seen }
-        ensures free { AllFree session.old.free session.new.free }
+        ensures acted { Acted N.parameters N.past session.old session.new }
         ensures port { P.geometry_of port.new ≡ P.geometry_of port.old }
         ensures known { result ≢ Err Refusal.UnknownTicket }
         ensures outcome { LoadOutcome S.gives ticket result session.old.said session.new.said
@@ -59,8 +59,7 @@ impl<N: PoolName, K: ListKeeper> SharedPool<N, K> {
         requires owes { OwesWrite session.old.client ticket session.old.said }
         ensures client { session.new.client ≡ session.old.client }
         ensures before { session.new.before ≡ session.old.before }
-        ensures seen { session.new.seen ≡ session.old.seen }
-        ensures free { AllFree session.old.free session.new.free }
+        ensures acted { Acted N.parameters N.past session.old session.new }
         ensures port { P.geometry_of port.new ≡ P.geometry_of port.old }
         ensures known { result ≢ Err Refusal.UnknownTicket }
         ensures outcome { WriteOutOutcome P.write_gives ticket result session.old.said
@@ -85,11 +84,9 @@ impl<N: PoolName, K: ListKeeper> SharedPool<N, K> {
         page: PageNo,
     ) -> Result<Fix, Refusal>
         requires page_in { page < N.parameters.pages }
-        ensures client { session.new.client ≡ session.old.client }
-        ensures before { session.new.before ≡ session.old.before }
-        ensures seen { session.new.seen ≡ session.old.seen }
-        ensures free { FreesRing result session.old.free session.new.free }
+        ensures keeps { KeepsSession N.parameters N.past result session.old session.new }
         ensures turn { FixTurn session.old.client page result session.old.said session.new.said }
+        ensures room { result ≡ Err Refusal.TrailFull → FillsRoom 3 N.parameters session.new.seen }
     {
         session.book.reserve_for_event()?;
         let mut state = self.lock_and_drain(rt, session);
@@ -116,12 +113,10 @@ impl<N: PoolName, K: ListKeeper> SharedPool<N, K> {
     ) -> Result<Pass, Refusal>
         requires page_in { page < N.parameters.pages }
         requires port { (P.geometry_of port.old).size ≡ N.parameters.size }
-        ensures client { session.new.client ≡ session.old.client }
-        ensures before { session.new.before ≡ session.old.before }
-        ensures seen { session.new.seen ≡ session.old.seen }
-        ensures free { FreesRing result session.old.free session.new.free }
+        ensures keeps { KeepsSession N.parameters N.past result session.old session.new }
         ensures port { P.geometry_of port.new ≡ P.geometry_of port.old }
         ensures outcome { FixSaid session.old.client page result session.old.said session.new.said }
+        ensures room { result ≡ Err Refusal.TrailFull → FillsRoom 3 N.parameters session.new.seen }
         ensures known { result ≢ Err Refusal.UnknownTicket }
         ensures work { DoesWorkSaid P.read_gives P.write_gives
             session.old.said session.new.said port.old port.new }
@@ -144,12 +139,10 @@ impl<N: PoolName, K: ListKeeper> SharedPool<N, K> {
     ) -> Result<Pass, Refusal>
         requires page_in { page < N.parameters.pages }
         requires port { (P.geometry_of port.old).size ≡ N.parameters.size }
-        ensures client { session.new.client ≡ session.old.client }
-        ensures before { session.new.before ≡ session.old.before }
-        ensures seen { session.new.seen ≡ session.old.seen }
-        ensures free { FreesRing result session.old.free session.new.free }
+        ensures keeps { KeepsSession N.parameters N.past result session.old session.new }
         ensures port { P.geometry_of port.new ≡ P.geometry_of port.old }
         ensures outcome { FixSaid session.old.client page result session.old.said session.new.said }
+        ensures room { result ≡ Err Refusal.TrailFull → FillsRoom 3 N.parameters session.new.seen }
         ensures known { result ≢ Err Refusal.UnknownTicket }
         ensures work { DoesWorkSaid (λ at. MadeBlank (P.geometry_of at).size at) P.write_gives
             session.old.said session.new.said port.old port.new }
@@ -169,12 +162,10 @@ impl<N: PoolName, K: ListKeeper> SharedPool<N, K> {
     ) -> Result<Pass, Refusal>
         requires page_in { page < N.parameters.pages }
         requires port { (P.geometry_of port.old).size ≡ N.parameters.size }
-        ensures client { session.new.client ≡ session.old.client }
-        ensures before { session.new.before ≡ session.old.before }
-        ensures seen { session.new.seen ≡ session.old.seen }
-        ensures free { FreesRing result session.old.free session.new.free }
+        ensures keeps { KeepsSession N.parameters N.past result session.old session.new }
         ensures port { P.geometry_of port.new ≡ P.geometry_of port.old }
         ensures outcome { FixSaid session.old.client page result session.old.said session.new.said }
+        ensures room { result ≡ Err Refusal.TrailFull → FillsRoom 3 N.parameters session.new.seen }
         ensures known { result ≢ Err Refusal.UnknownTicket }
         ensures work { DoesWorkSaid S.gives P.write_gives
             session.old.said session.new.said port.old port.new }

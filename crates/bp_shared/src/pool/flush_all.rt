@@ -13,7 +13,8 @@ use std::sync::Wait;
 impl<N: PoolName, K: ListKeeper> SharedPool<N, K> {
     ghost use Rattle.std.specs.Prelude.{◌≡◌, ◌≢◌, IfErr};
     ghost use Rattle.bp_shared.specs.FlushAll.{FlushAllSaid};
-    ghost use Rattle.bp_shared.specs.Sessions.{AllFree, DoesWorkSaid};
+    ghost use Rattle.bp_shared.specs.Sessions.{DoesWorkSaid};
+    ghost use Rattle.bp_shared.specs.Keeping.{Acted, FillsRoom};
 
     /// Writes each unsaved page out, in the order of the file, as `flush` does, with no lock held while the device
     /// works. Each page is the first that is unsaved from the one before on, when it is looked for. A page that was
@@ -31,11 +32,13 @@ impl<N: PoolName, K: ListKeeper> SharedPool<N, K> {
     ) -> Result<(), NotFlushed>
         ensures client { session.new.client ≡ session.old.client }
         ensures before { session.new.before ≡ session.old.before }
-        ensures free { AllFree session.old.free session.new.free }
+        ensures acted { Acted N.parameters N.past session.old session.new }
         ensures port { P.geometry_of port.new ≡ P.geometry_of port.old }
         ensures outcome { FlushAllSaid (record { parameters = N.parameters; start = N.past })
             result session.old session.new }
         ensures known { IfErr result (λ stop. stop.why ≢ Refusal.UnknownTicket) }
+        ensures room { IfErr result (λ stop. stop.why ≡ Refusal.TrailFull
+            → FillsRoom 2 N.parameters session.new.seen) }
         ensures work { DoesWorkSaid P.read_gives P.write_gives session.old.said session.new.said
             port.old port.new }
     {

@@ -13,7 +13,8 @@ use std::sync::Wait;
 impl<N: PoolName, K: ListKeeper> SharedPool<N, K> {
     ghost use Rattle.std.specs.Prelude.{◌≡◌, ◌≢◌, ◌<◌};
     ghost use Rattle.bp_session_log.specs.Turns.{FlushTurn};
-    ghost use Rattle.bp_shared.specs.Sessions.{DoesWorkSaid, FlushSaid, FreesRing};
+    ghost use Rattle.bp_shared.specs.Sessions.{DoesWorkSaid, FlushSaid};
+    ghost use Rattle.bp_shared.specs.Keeping.{KeepsSession, FillsRoom};
 
     /// Takes the memory for one more event, and asks that a page be written out in one critical section. `Busy` and
     /// `OutOfMemory` as from `ask_fix`.
@@ -24,11 +25,9 @@ impl<N: PoolName, K: ListKeeper> SharedPool<N, K> {
         page: PageNo,
     ) -> Result<Flush, Refusal>
         requires page_in { page < N.parameters.pages }
-        ensures client { session.new.client ≡ session.old.client }
-        ensures before { session.new.before ≡ session.old.before }
-        ensures seen { session.new.seen ≡ session.old.seen }
-        ensures free { FreesRing result session.old.free session.new.free }
+        ensures keeps { KeepsSession N.parameters N.past result session.old session.new }
         ensures turn { FlushTurn session.old.client page result session.old.said session.new.said }
+        ensures room { result ≡ Err Refusal.TrailFull → FillsRoom 2 N.parameters session.new.seen }
     {
         session.book.reserve_for_event()?;
         let mut state = self.lock_and_drain(rt, session);
@@ -51,13 +50,11 @@ impl<N: PoolName, K: ListKeeper> SharedPool<N, K> {
         page: PageNo,
     ) -> Result<Flushed, Refusal>
         requires page_in { page < N.parameters.pages }
-        ensures client { session.new.client ≡ session.old.client }
-        ensures before { session.new.before ≡ session.old.before }
-        ensures seen { session.new.seen ≡ session.old.seen }
-        ensures free { FreesRing result session.old.free session.new.free }
+        ensures keeps { KeepsSession N.parameters N.past result session.old session.new }
         ensures port { P.geometry_of port.new ≡ P.geometry_of port.old }
         ensures outcome { FlushSaid session.old.client page result
             session.old.said session.new.said }
+        ensures room { result ≡ Err Refusal.TrailFull → FillsRoom 2 N.parameters session.new.seen }
         ensures known { result ≢ Err Refusal.UnknownTicket }
         ensures work { DoesWorkSaid P.read_gives P.write_gives
             session.old.said session.new.said port.old port.new }

@@ -6,22 +6,24 @@ use crate::names::PoolName;
 use crate::session::Session;
 use bp_core::Pass;
 use bp_keeper::ListKeeper;
-use bp_page::{Bytes, Image, Lsn, Refusal};
+use bp_page::{Image, Lsn, Refusal};
 use std::sync::Wait;
 
 impl<N: PoolName, K: ListKeeper> SharedPool<N, K> {
-    ghost use Rattle.std.specs.Prelude.{◌≡◌, ◌≢◌, ◌+◌, ◌≤◌, false, length, IfOk};
+    ghost use Rattle.std.specs.Prelude.{◌≡◌, ◌≢◌, ◌+◌, ◌^◌, ◌<◌, ◌≤◌, false, length, IfOk};
     ghost use Rattle.bp_session_log.specs.Turns.{TickSaid, PurgeSaid, ReadSaid, ReadIntoSaid, WriteSaid};
-    ghost use Rattle.bp_shared.specs.Sessions.{FreesRing, IsRoomy, LacksOwn};
+    ghost use Rattle.bp_shared.specs.Sessions.{IsRoomy, LacksOwn};
+    ghost use Rattle.bp_shared.specs.Keeping.{KeepsSession, FillsRoom};
+    ghost use Rattle.bp_trail.specs.Clock.{clock};
 
     /// Moves the clock on by `n` ticks. `OutOfMemory`, `TrailFull` and `ClockFull` change nothing. A silent session
     /// answers `OutOfMemory` only where what it keeps for itself has to grow.
     pub fn tick<R: Wait>(&self, rt: &R, session: &mut Session<N, K>, n: u64) -> Result<(), Refusal>
-        ensures client { session.new.client ≡ session.old.client }
-        ensures before { session.new.before ≡ session.old.before }
-        ensures seen { session.new.seen ≡ session.old.seen }
-        ensures free { FreesRing result session.old.free session.new.free }
+        ensures keeps { KeepsSession N.parameters N.past result session.old session.new }
         ensures outcome { TickSaid session.old.client n result session.old.said session.new.said }
+        ensures room { result ≡ Err Refusal.TrailFull → FillsRoom 1 N.parameters session.new.seen }
+        ensures clock { result ≡ Err Refusal.ClockFull
+            → 2 ^ 62 < clock session.new.seen + n }
         ensures memory { K.REFUSES ≡ false → IsRoomy session.old
             → result ≢ Err Refusal.OutOfMemory }
     {
@@ -33,11 +35,9 @@ impl<N: PoolName, K: ListKeeper> SharedPool<N, K> {
     /// Forgets old references, and returns the number of their pages. `OutOfMemory` and `TrailFull` change nothing. A
     /// silent session answers `OutOfMemory` as from `tick`.
     pub fn purge<R: Wait>(&self, rt: &R, session: &mut Session<N, K>) -> Result<u64, Refusal>
-        ensures client { session.new.client ≡ session.old.client }
-        ensures before { session.new.before ≡ session.old.before }
-        ensures seen { session.new.seen ≡ session.old.seen }
-        ensures free { FreesRing result session.old.free session.new.free }
+        ensures keeps { KeepsSession N.parameters N.past result session.old session.new }
         ensures outcome { PurgeSaid session.old.client result session.old.said session.new.said }
+        ensures room { result ≡ Err Refusal.TrailFull → FillsRoom 1 N.parameters session.new.seen }
         ensures memory { K.REFUSES ≡ false → IsRoomy session.old
             → result ≢ Err Refusal.OutOfMemory }
     {
@@ -55,15 +55,13 @@ impl<N: PoolName, K: ListKeeper> SharedPool<N, K> {
         session: &mut Session<N, K>,
         pass: &Pass,
     ) -> Result<Image, Refusal>
-        ensures client { session.new.client ≡ session.old.client }
-        ensures before { session.new.before ≡ session.old.before }
-        ensures seen { session.new.seen ≡ session.old.seen }
-        ensures free { FreesRing result session.old.free session.new.free }
+        ensures keeps { KeepsSession N.parameters N.past result session.old session.new }
         ensures size { IfOk result (λ image. length image ≡ N.parameters.size) }
         ensures stranger { pass.now.client ≢ session.old.client → result ≡ Err Refusal.UnknownPass }
         ensures unknown { result ≡ Err Refusal.UnknownPass → LacksOwn pass.now session.old }
         ensures outcome { ReadSaid session.old.client pass.now result
             session.old.said session.new.said }
+        ensures room { result ≡ Err Refusal.TrailFull → FillsRoom 1 N.parameters session.new.seen }
     {
         if pass.client() != session.client() {
             return Err(Refusal::UnknownPass);
@@ -85,14 +83,12 @@ impl<N: PoolName, K: ListKeeper> SharedPool<N, K> {
         into: &mut [u8],
     ) -> Result<(), Refusal>
         requires fits { offset + length into.old ≤ N.parameters.size }
-        ensures client { session.new.client ≡ session.old.client }
-        ensures before { session.new.before ≡ session.old.before }
-        ensures seen { session.new.seen ≡ session.old.seen }
-        ensures free { FreesRing result session.old.free session.new.free }
+        ensures keeps { KeepsSession N.parameters N.past result session.old session.new }
         ensures stranger { pass.now.client ≢ session.old.client → result ≡ Err Refusal.UnknownPass }
         ensures unknown { result ≡ Err Refusal.UnknownPass → LacksOwn pass.now session.old }
         ensures outcome { ReadIntoSaid session.old.client pass.now offset into.old result into.new
             session.old.said session.new.said }
+        ensures room { result ≡ Err Refusal.TrailFull → FillsRoom 1 N.parameters session.new.seen }
         ensures memory { K.REFUSES ≡ false → IsRoomy session.old
             → result ≢ Err Refusal.OutOfMemory }
     {
@@ -105,32 +101,7 @@ impl<N: PoolName, K: ListKeeper> SharedPool<N, K> {
     }
 
     /// Writes bytes into a pass's page, from the offset on, and raises the page LSN to `lsn` if that is greater.
-    /// Refusals as from `read`, and of a silent pool as from `read_into`.
-    pub fn write<R: Wait>(
-        &self,
-        rt: &R,
-        session: &mut Session<N, K>,
-        pass: &Pass,
-        offset: u32,
-        bytes: &Bytes,
-        lsn: Lsn,
-    ) -> Result<(), Refusal>
-        requires fits { offset + length bytes.now ≤ N.parameters.size }
-        ensures client { session.new.client ≡ session.old.client }
-        ensures before { session.new.before ≡ session.old.before }
-        ensures seen { session.new.seen ≡ session.old.seen }
-        ensures free { FreesRing result session.old.free session.new.free }
-        ensures stranger { pass.now.client ≢ session.old.client → result ≡ Err Refusal.UnknownPass }
-        ensures unknown { result ≡ Err Refusal.UnknownPass → LacksOwn pass.now session.old }
-        ensures outcome { WriteSaid session.old.client pass.now offset bytes.now lsn result
-            session.old.said session.new.said }
-        ensures memory { K.REFUSES ≡ false → IsRoomy session.old
-            → result ≢ Err Refusal.OutOfMemory }
-    {
-        self.write_from(rt, session, pass, offset, bytes.bytes(), lsn)
-    }
-
-    /// Writes as `write` does, from bytes that the caller lends. A silent pool takes no memory for them.
+    /// Refusals as from `read`, and of a silent pool as from `read_into`: it takes no memory for the bytes.
     pub fn write_from<R: Wait>(
         &self,
         rt: &R,
@@ -141,14 +112,12 @@ impl<N: PoolName, K: ListKeeper> SharedPool<N, K> {
         lsn: Lsn,
     ) -> Result<(), Refusal>
         requires fits { offset + length bytes.now ≤ N.parameters.size }
-        ensures client { session.new.client ≡ session.old.client }
-        ensures before { session.new.before ≡ session.old.before }
-        ensures seen { session.new.seen ≡ session.old.seen }
-        ensures free { FreesRing result session.old.free session.new.free }
+        ensures keeps { KeepsSession N.parameters N.past result session.old session.new }
         ensures stranger { pass.now.client ≢ session.old.client → result ≡ Err Refusal.UnknownPass }
         ensures unknown { result ≡ Err Refusal.UnknownPass → LacksOwn pass.now session.old }
         ensures outcome { WriteSaid session.old.client pass.now offset bytes.now lsn result
             session.old.said session.new.said }
+        ensures room { result ≡ Err Refusal.TrailFull → FillsRoom 1 N.parameters session.new.seen }
         ensures memory { K.REFUSES ≡ false → IsRoomy session.old
             → result ≢ Err Refusal.OutOfMemory }
     {

@@ -140,13 +140,12 @@ fn read<N: PoolName, P: Port, R: Wait>(
         return Err(Refusal::UnknownPass);
     };
     let pass = note.pass();
-    let read = pool.read(rt, &mut client.session, &pass);
+    let read = pool.read_into(rt, &mut client.session, &pass, 0, &mut []);
     pass.note();
-    let _image = match read {
-        Ok(image) => image,
-        Err(refusal) => return Err(as_fault(refusal)),
-    };
-    Ok(())
+    match read {
+        Ok(()) => Ok(()),
+        Err(refusal) => Err(as_fault(refusal)),
+    }
 }
 
 /// `Disagree` where the pool does not know a pass that the client holds.
@@ -172,7 +171,7 @@ fn write<N: PoolName, P: Port, R: Wait>(
         return Err(Refusal::UnknownPass);
     };
     let pass = note.pass();
-    let written = pool.write(rt, &mut client.session, &pass, offset, bytes, lsn);
+    let written = pool.write_from(rt, &mut client.session, &pass, offset, bytes.bytes(), lsn);
     pass.note();
     match written {
         Ok(()) => Ok(()),

@@ -1,9 +1,10 @@
 -- A refusal that nothing here overcomes is answered.
-use Rattle.std.proofs.Common.{◌≡◌, ◌≢◌, refl, ℕ, Bool, inl}
+use Rattle.std.proofs.Common.{◌≡◌, ◌≢◌, refl, ℕ, Bool}
 use Rattle.bp_page.specs.declared.refusals.Refusal.{Refusal}
 use Rattle.bp_page.specs.declared.refusals.Refusal.TheVariants as refusal
 use Rattle.bp_trail.specs.Trail.{Trail}
 use Rattle.bp_workers.specs.Tries.{Ticks, GivesUp}
+use Rattle.bp_shared.proofs.Acting.{idle}
 use Rattle.bp_workers.proofs.Raising.{raises-none}
 use Rattle.bp_workers.proofs.durable.overcome.Goals as goal
 
@@ -18,8 +19,7 @@ returns-in_default g c =
     record {
       client = refl;
       before = refl;
-      seen = refl;
-      free = inl refl;
+      acts = idle _ _ _;
       lent = refl;
       raises = raises-none _ _;
       goes_on = tt;

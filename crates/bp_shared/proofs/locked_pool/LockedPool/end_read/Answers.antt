@@ -1,7 +1,8 @@
 -- One event, which the board shows.
 use Rattle.std.proofs.Common.{rules, refl}
 use Rattle.bp_shared.proofs.Stepping.{step_one}
-use Rattle.bp_shared.proofs.Telling.{adds_one, end_read_one, earlier_adds, shown_more}
+use Rattle.bp_shared.proofs.Acting.{shows}
+use Rattle.bp_shared.proofs.Telling.{adds_one, end_read_one, earlier_adds, earlier_seen, line_earlier, shown_more}
 use Rattle.bp_shared.proofs.Posting.{posted_adds}
 use Rattle.bp_shared.proofs.Owning.{read-known, read-not-unknown}
 use Rattle.bp_shared.proofs.locked_pool.LockedPool.end_read.Goals as goal
@@ -15,17 +16,17 @@ invariant_of-self g c =
       shown_more _ _ c.session.inside.book.client _ _ _ _ _ _ _ _ c.self.invariant.2 c.session.invariant.3 (rw (← c.self.view_is, ← c.session.view_is) at c.requires.entered.list_is) adds c.write.ensures,
       posted_adds _ _ _ c.session.inside.book.client _ _ _ _ c.self.invariant.3 adds done.owner.unfixes_are,
       c.self.invariant.4,
-      earlier_adds _ _ _ _ _ _ _ c.self.invariant.5 adds,
+      earlier_seen _ _ _ _ _ _ (earlier_adds _ _ _ _ _ _ _ c.self.invariant.5 adds) c.write-2.ensures,
     )
 
 pub returns : goal.returns
 returns g c =
     let done = c.end_read-ended.ensures in
+    let adds = adds_one c.session.inside.book.client _ _ _ _ done.alike (end_read_one _ _ _ _ _ _ (rw (← c.session.view_is) at c.requires.owes) done.outcome) in
     rw (← c.self.view_is, ← c.session.view_is) (record {
       client = done.owner.client;
       before = done.owner.before;
-      seen = refl;
-      free = refl;
+      acted = shows _ _ _ _ c.self.inside.core c.end_read-ended.new.core c.self.invariant.0.parameters_are done.parameters c.keeps_the_rules.ensures.legal (rw (← c.self.view_is, ← c.session.view_is) at c.requires.entered.list_is) adds done.owner.client (rw (← c.session.view_is) at c.requires.entered.emptied) refl (line_earlier _ _ _ _ _ _ _ c.self.invariant.5 c.write-2.ensures) c.write-2.ensures.list_is;
       ends = refl;
       known = read-not-unknown c.self.inside.core c.end_read-ended.new.core c.args.ticket _ _ done.ended
           (read-known _ _ _ _ _ _ (rw (← c.self.view_is) at c.requires.entered.legal) (rw (← c.self.view_is, ← c.session.view_is) at c.requires.entered.list_is) (rw (← c.session.view_is) at c.requires.owes));

@@ -1,22 +1,23 @@
 -- Turn after turn.
-use Rattle.std.proofs.Common.{refl, ◌∙◌, inl}
+use Rattle.std.proofs.Common.{refl, sym, ap, subst, ◌∙◌, inl, inr}
 use Rattle.bp_trail.specs.declared.ends.Discarded.{Discarded}
-use Rattle.bp_shared.proofs.Freeing.{may_free, all_more, may_more, refused_more}
-use Rattle.bp_shared.proofs.Discarding.{waits_none, busy_waits, left_said, refused_said}
+use Rattle.bp_shared.specs.Sessions.{IsRoomy}
+use Rattle.bp_shared.proofs.Working.{why-of}
+use Rattle.bp_shared.proofs.Acting.{idle, may_act, all_more, may_more, refused_more}
+use Rattle.bp_shared.proofs.Discarding.{waits_none, busy_waits, left_said, refused_said, longer, still_longer, either}
 use Rattle.bp_shared.proofs.pool.SharedPool.discard.Goals as goal
 
 pub loop-init : goal.loop-init
-loop-init g c = record { client = refl; before = refl; seen = refl; free = inl refl; waits = waits_none _ _ _ }
+loop-init g c = record { client = refl; before = refl; acts = idle _ _ _; fresh = inl refl; waits = waits_none _ _ _ }
 
 pub returns-in-Ok : goal.returns-in-Ok
 returns-in-Ok g c =
     let i = c.loop.invariant in
     let t = rw i.client at c.in-Ok.ensures.turn in
     record {
-      client = c.ask_discard.ensures.client ∙ i.client;
-      before = c.ask_discard.ensures.before ∙ i.before;
-      seen = c.ask_discard.ensures.seen ∙ i.seen;
-      free = all_more _ _ _ i.free c.in-Ok.ensures.free;
+      keeps = record { client = c.ask_discard.ensures.keeps.client ∙ i.client; before = c.ask_discard.ensures.keeps.before ∙ i.before; acts = all_more _ _ _ _ _ i.acts c.in-Ok.ensures.keeps.acts };
+      room = λ full. absurd (let no = full in cc);
+      memory = λ silent roomy refused. absurd (let no = refused in cc);
       outcome = left_said _ _ c.in-Ok.how _ _ _ i.waits t;
     }
 
@@ -25,10 +26,10 @@ loop-preserved g c =
     let i = c.loop.invariant in
     let t = rw (c.in-Busy.is, i.client) at c.in-Err.ensures.turn in
     record {
-      client = c.ask_discard.ensures.client ∙ i.client;
-      before = c.ask_discard.ensures.before ∙ i.before;
-      seen = c.ask_discard.ensures.seen ∙ i.seen;
-      free = may_more _ _ _ i.free (may_free _ _ _ c.ask_discard.ensures.free);
+      client = c.ask_discard.ensures.keeps.client ∙ i.client;
+      before = c.ask_discard.ensures.keeps.before ∙ i.before;
+      acts = may_more _ _ _ _ _ i.acts (may_act _ _ _ _ _ c.ask_discard.ensures.keeps.acts);
+      fresh = inr (longer _ _ _ _ _ i.waits t);
       waits = busy_waits _ _ _ _ _ i.waits t;
     }
 
@@ -37,9 +38,10 @@ returns-in_default g c =
     let i = c.loop.invariant in
     let t = rw i.client at c.in-Err.ensures.turn in
     record {
-      client = c.ask_discard.ensures.client ∙ i.client;
-      before = c.ask_discard.ensures.before ∙ i.before;
-      seen = c.ask_discard.ensures.seen ∙ i.seen;
-      free = refused_more Discarded Discarded _ _ _ _ i.free c.in-Err.ensures.free;
+      keeps = record { client = c.ask_discard.ensures.keeps.client ∙ i.client; before = c.ask_discard.ensures.keeps.before ∙ i.before; acts = refused_more Discarded Discarded _ _ _ _ _ _ i.acts c.in-Err.ensures.keeps.acts };
+      room = c.in-Err.ensures.room;
+      memory = λ silent roomy refused.
+          either _ _ _ i.fresh (λ same. absurd (c.in-Err.ensures.memory silent (subst IsRoomy (sym same) roomy) refused))
+          (λ long. still_longer _ _ c.in-Err.refusal _ _ _ long t (ap why-of refused));
       outcome = refused_said _ _ c.in-Err.refusal _ _ _ c.in_default.not-Busy i.waits t;
     }

@@ -1,7 +1,7 @@
 -- The turns so far.
-use Rattle.std.proofs.Common.{◌≡◌}
+use Rattle.std.proofs.Common.{◌≡◌, ◌<◌, ◌⊎◌, length}
 use Rattle.bp_shared.proofs.Discarding.{DiscardWaits}
-use Rattle.bp_shared.specs.Sessions.{MayFree}
+use Rattle.bp_shared.specs.Keeping.{MayAct}
 use Rattle.bp_shared.proofs.pool.SharedPool.discard.Given as goal
 
 abbrev pub invariant-loop : goal.invariant-loop
@@ -9,7 +9,7 @@ invariant-loop g l =
     record {
       client : l.session.client ≡ l.initial.session.client;
       before : l.session.before ≡ l.initial.session.before;
-      seen : l.session.seen ≡ l.initial.session.seen;
-      free : MayFree l.initial.session.free l.session.free;
+      acts : MayAct g.N.PoolName.parameters g.N.PoolName.past l.initial.session l.session;
+      fresh : (l.session ≡ l.initial.session) ⊎ (length l.initial.session.said < length l.session.said);
       waits : DiscardWaits l.initial.session.client l.page l.initial.session.said l.session.said;
     }

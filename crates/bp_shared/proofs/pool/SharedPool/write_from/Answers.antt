@@ -5,7 +5,7 @@ use Rattle.std.proofs.lemmas.Result.{err_from_is_err_and}
 use Rattle.bp_session_log.specs.Turns.{WriteSaid}
 use Rattle.bp_core.specs.Outcomes.{pass_is_out}
 use Rattle.bp_shared.specs.Sessions.{SessionValue}
-use Rattle.bp_shared.proofs.Freeing.{freed, unasked}
+use Rattle.bp_shared.proofs.Acting.{acted, begun, unasked}
 use Rattle.bp_shared.proofs.Working.{why-of}
 use Rattle.bp_shared.proofs.pool.SharedPool.write_from.Goals as goal
 
@@ -16,10 +16,12 @@ returns-in_err-reserve_for_event g c =
     let why = is.1 ∙ ap Err (is.2 ∙ ap why-of refused.refused) in
     let own = sym c.client.ensures ∙ c.if-client.false ∙ c.client-2.ensures ∙ sym (ap (λ (s : SessionValue). s.client) c.session.view_is) in
     rw (← c.session.view_is) (record {
-      client = refused.same.client;
-      before = refused.same.before;
-      seen = refl;
-      free = unasked _ _ why;
+      keeps = record {
+        client = refused.same.client;
+        before = refused.same.before;
+        acts = unasked _ _ _ _ _ why (record { client = refused.same.client; said = refused.same.said; seen = refl; free = refl });
+      };
+      room = λ full. absurd (let no = sym why ∙ full in cc);
       stranger = λ not. absurd (not own);
       unknown = λ is. absurd (let no = sym why ∙ is in cc);
       outcome = subst (λ r. WriteSaid c.session.inside.book.client c.args.pass.now c.args.offset c.args.bytes.now c.args.lsn r c.session.inside.book.said c.reserve_for_event.new.self.said) (sym why) (own, refused.same.said);
@@ -35,10 +37,12 @@ returns g c =
     let done = c.write.ensures in
     let own = sym c.client.ensures ∙ c.if-client.false ∙ c.client-2.ensures ∙ sym (ap (λ (s : SessionValue). s.client) c.session.view_is) in
     rw (← c.session.view_is) (record {
-      client = done.client ∙ client;
-      before = done.before ∙ ap (λ (s : SessionValue). s.before) entered.session ∙ same.before;
-      seen = done.seen ∙ ap (λ (s : SessionValue). s.seen) entered.session;
-      free = freed _ _ _ (entered.free, done.free ∙ ap (λ (s : SessionValue). s.free) entered.session);
+      keeps = record {
+        client = done.client ∙ client;
+        before = done.before ∙ ap (λ (s : SessionValue). s.before) entered.session ∙ same.before;
+        acts = acted _ _ _ _ _ (begun _ _ _ _ _ entered.free (ap (λ (s : SessionValue). s.seen) entered.session) done.acted);
+      };
+      room = done.room;
       stranger = λ not. absurd (not own);
       unknown = λ is. inr (sym (ap (pass_is_out c.args.pass.now) said) ∙ done.unknown is);
       outcome = rw (client, said) at done.outcome;

@@ -26,7 +26,7 @@ returns-in_err-pass g c =
     let gone = c.in_err-pass.ensures in
     let is = err_from_is_err_and c.from_residual-in_err-pass.result c.from_residual-in_err-pass.ensures.1 in
     rw (is.1 ∙ ap Err is.2) (record {
-      same = (c.fix.ensures.client, c.fix.ensures.before);
+      same = (c.fix.ensures.keeps.client, c.fix.ensures.keeps.before);
       work = gone.work;
       outcome = fix_refused c.args.client.now.session.client c.args.page c.in_err-pass.field-0.0 c.args.client.now.session.said c.fix.new.session.said gone.outcome;
       held = c.reserve.ensures.passes ∙ c.requires.held ∙ sym (refused_fix-holds c.args.client.now.session.client c.args.page c.in_err-pass.field-0.0 c.args.client.now.session.said c.fix.new.session.said gone.outcome);
@@ -36,7 +36,7 @@ pub returns : goal.returns
 returns g c =
     let done = c.in_ok-pass.ensures in
     record {
-      same = (c.fix.ensures.client, c.fix.ensures.before);
+      same = (c.fix.ensures.keeps.client, c.fix.ensures.keeps.before);
       work = done.work;
       outcome = fix_said c.args.client.now.session.client c.args.page c.in_ok-pass.pass c.args.client.now.session.said c.fix.new.session.said done.outcome;
       held = fix-holds c.args.client.now.session.client c.args.page c.in_ok-pass.pass c.args.client.now.session.said c.fix.new.session.said c.reserve.new.self.passes c.push.new.self.passes done.outcome (c.reserve.ensures.passes ∙ c.requires.held)

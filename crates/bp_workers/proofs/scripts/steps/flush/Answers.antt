@@ -10,7 +10,7 @@ returns-in_err-flush g c =
     let refused = c.in_err-flush.ensures in
     let is = err_from_is_err_and c.from_residual.result c.from_residual.ensures.1 in
     rw (is.1 ∙ ap Err is.2) (record {
-      same = (c.flush.ensures.client, c.flush.ensures.before);
+      same = (c.flush.ensures.keeps.client, c.flush.ensures.keeps.before);
       work = refused.work;
       outcome = flush_refused c.args.client.now.session.client c.args.page c.in_err-flush.field-0.0 c.args.client.now.session.said c.flush.new.session.said refused.outcome;
       held = flush-holds c.args.client.now.session.client c.args.page c.flush.result c.args.client.now.session.said c.flush.new.session.said c.flush.ensures.outcome;
@@ -20,7 +20,7 @@ pub returns : goal.returns
 returns g c =
     let done = c.in_ok-flush.ensures in
     record {
-      same = (c.flush.ensures.client, c.flush.ensures.before);
+      same = (c.flush.ensures.keeps.client, c.flush.ensures.keeps.before);
       work = done.work;
       outcome = flush_said c.args.client.now.session.client c.args.page c.in_ok-flush.field-0 c.args.client.now.session.said c.flush.new.session.said done.outcome;
       held = flush-holds c.args.client.now.session.client c.args.page c.flush.result c.args.client.now.session.said c.flush.new.session.said c.flush.ensures.outcome;

@@ -1,0 +1,50 @@
+-- What a call of a session leaves as it was, and what its sections show it of the trail.
+use Rattle.std.specs.Prelude.{◌≡◌, ◌⊎◌, ℕ, ◌<◌, ◌≤◌, Result, Err, length}
+use Rattle.bp_page.specs.declared.refusals.Refusal.{Refusal}
+use Rattle.bp_page.specs.declared.refusals.Refusal.TheVariants as refusal
+use Rattle.bp_trail.specs.Legal.{Legal}
+use Rattle.bp_trail.specs.Parameters.{Parameters}
+use Rattle.bp_trail.specs.Room.{free_keeping}
+use Rattle.bp_trail.specs.Trail.{Trail}
+use Rattle.bp_shared.specs.Sessions.{SessionValue}
+use Rattle.bp_shared.specs.Telling.{GoesOnFrom, IsListOf}
+
+-- the session made no section, and its list got nothing
+pub record Idles (old new : SessionValue) : Type 0 where
+  pub client : new.client ≡ old.client
+  pub said : new.said ≡ old.said
+  pub seen : new.seen ≡ old.seen
+  pub free : new.free ≡ old.free
+
+-- the session made a section: it took back what the session had posted, so that all 32 places of the
+-- ring are free, and at its end it showed the session the trail. That is a legal list, whose entries
+-- of the client are the session's list, each unfix in its place, and goes on from what the session
+-- saw before
+pub record Acted (c : Parameters) (start : Trail) (old new : SessionValue) : Type 0 where
+  pub few : old.free ≤ 32
+  pub free : new.free ≡ 32
+  pub legal : Legal c new.seen
+  pub list_is : IsListOf start new.seen new.client new.said
+  pub goes_on : GoesOnFrom old.seen new.seen
+
+abbrev pub MayAct : Parameters → Trail → SessionValue → SessionValue → Type 0
+MayAct c start old new = Idles old new ⊎ Acted c start old new
+
+-- each call makes a section; but where it is refused for want of memory, or for a pass, maybe none
+abbrev pub Acts : {A : Type 0} → Parameters → Trail → Result A Refusal → SessionValue → SessionValue
+    → Type 0
+Acts c start (Err refusal.OutOfMemory) old new = MayAct c start old new
+Acts c start (Err refusal.UnknownPass) old new = MayAct c start old new
+Acts c start _ old new = Acted c start old new
+
+-- the session is the same client's, nothing of its list was handed out, and its sections took back
+-- what it had posted and showed it the trail
+pub record KeepsSession {A : Type 0} (c : Parameters) (start : Trail) (answer : Result A Refusal)
+    (old new : SessionValue) : Type 0 where
+  pub client : new.client ≡ old.client
+  pub before : new.before ≡ old.before
+  pub acts : Acts c start answer old new
+
+-- the entries of a trail, and what is owed after them, leave less room than for so many more
+abbrev pub FillsRoom : ℕ → Parameters → Trail → Type 0
+FillsRoom n c past = free_keeping c (length past) past < n
