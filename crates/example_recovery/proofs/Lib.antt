@@ -1,0 +1,3 @@
+pub mod Firsts
+pub mod Redoing
+pub mod Pools
