@@ -1,7 +1,7 @@
 /* The buffer pool Hojzmated for C, C++ and whatever calls C: the silent core, with one owner. docs/C.md has the order
  * of calls, what is proved and what is not.
  *
- * The pool does no input or output and takes no lock. Two threads may use one core, in turn, under a lock of yours.
+ * The pool does no input or output and takes no lock. Threads may use one core in turn, under a lock of yours.
  *
  * Each call that returns a uint16_t returns 0, or the number of a refusal; hz_text has its text. A null pointer, but
  * for that of a buffer of length 0, is refused with HZ_NULL before all else. A handle with no core is then refused

@@ -160,7 +160,7 @@ typedef struct hz_pager_stats {
     uint64_t failed;    /* reads and write-outs that failed */
     uint64_t refused;   /* times that a pool could not do at once what it was asked for */
     uint64_t discards;  /* pages that left a frame by hz_pager_discard */
-    uint64_t waits;     /* times that a thread slept till a page was read, written out or unpinned */
+    uint64_t waits;     /* times that a thread slept till a page was read, written out or let go, or the log durable */
     size_t resident;    /* pages in frames */
     size_t pinned;      /* of these, pages that are fixed */
     size_t unsaved;     /* of these, pages with a put that is in no image on the device */

@@ -36,8 +36,9 @@ many threads. What this module's own code does is tested, not proved. Below it a
 
 A `Pool` moves no bytes: each page counts as read as soon as it is asked for, and none is written to.
 
-The libraries are looked for in $HOJZMATED_PREFIX/lib, then in the checkout of this file (`make -C bindings/c pager`),
-and then where the system's loader looks.
+The libraries are looked for in $HOJZMATED_PREFIX/lib, then beside this file in hojzmated.libs, where the wheel of a
+release has them, then in the checkout of this file (`make -C bindings/c pager`), and then where the system's loader
+looks.
 """
 import _thread
 import collections
@@ -112,10 +113,11 @@ def _library_path(name, target):
     prefix = os.environ.get("HOJZMATED_PREFIX")
     if prefix:
         return os.path.join(prefix, "lib", f"lib{name}.so")
-    bindings = os.path.dirname(os.path.dirname(os.path.realpath(__file__)))
-    built = os.path.join(bindings, "c", "out", "lib", f"lib{name}.so")
-    if os.path.exists(built):
-        return built
+    own = os.path.dirname(os.path.realpath(__file__))
+    for folder in (os.path.join(own, "hojzmated.libs"), os.path.join(os.path.dirname(own), "c", "out", "lib")):
+        path = os.path.join(folder, f"lib{name}.so")
+        if os.path.exists(path):
+            return path
     found = ctypes.util.find_library(name)
     if found is None:
         raise ImportError(f"no lib{name}.so: install it and set HOJZMATED_PREFIX, or in a checkout run "

@@ -1,7 +1,8 @@
 //! Finds the archive `libhojzmated.a`, and has it linked.
 //!
-//! It is looked for where `HOJZMATED_PREFIX` says, then where pkg-config says, and then in the
-//! checkout that this crate stands in, where `make -C bindings/c` builds it.
+//! It is looked for where `HOJZMATED_PREFIX` says, then in the folder `lib` of this crate, where the
+//! crate of a release has it, then where pkg-config says, and then in the checkout that this crate
+//! stands in, where `make -C bindings/c` builds it.
 use std::env;
 use std::path::{Path, PathBuf};
 use std::process::{Command, Stdio};
@@ -34,12 +35,18 @@ fn found_folder() -> Result<PathBuf, String> {
             prefix.display()
         ));
     }
-    told_by_pkg_config()
+    within_the_crate()
+        .or_else(told_by_pkg_config)
         .or_else(built_in_the_checkout)
         .ok_or(format!(
             "no {ARCHIVE}: install it and set HOJZMATED_PREFIX, or have pkg-config find hojzmated.pc; in a checkout \
              `make -C bindings/c` builds it"
         ))
+}
+
+fn within_the_crate() -> Option<PathBuf> {
+    let folder = PathBuf::from(env::var_os("CARGO_MANIFEST_DIR")?).join("lib");
+    folder.join(ARCHIVE).is_file().then_some(folder)
 }
 
 fn told_by_pkg_config() -> Option<PathBuf> {

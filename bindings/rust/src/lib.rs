@@ -125,6 +125,8 @@ pub use shared::{
     Cleaner, OwnedMut, OwnedPin, OwnedRef, PageMut, PagePin, PageRef, Readers, SharedConfig,
     SharedPager, Stats,
 };
+#[doc(hidden)]
+pub use shared::{Left, Missed, MissedAlone};
 
 /// The version of the library below, as major * 10,000 + minor * 100 + patch.
 pub fn version() -> u32 {

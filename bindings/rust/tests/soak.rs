@@ -92,8 +92,9 @@ fn soak_of_64_threads() {
         engine.faults.load(Ordering::Relaxed),
         engine.kept.load(Ordering::Relaxed),
     );
-    println!("{calls} calls, {faults} faults, {kept} checkpoints");
-    assert!(faults > 0 && kept > 0);
+    let discards = engine.pager.stats().totals.discards;
+    println!("{calls} calls, {faults} faults, {kept} checkpoints, {discards} discards");
+    assert!(faults > 0 && kept > 0 && discards > 0);
     let (first, most) = (sizes[0], sizes.iter().max().unwrap());
     let may_grow = |first| {
         if time < 4 * MINUTE {

@@ -1,6 +1,7 @@
 //! The device and log of a pager: the engine's callbacks, or a page file.
 use crate::abi::{HZ_BAD_SETTINGS, HZ_IO_WRONG_PAGE, HZ_READ_FAILED, hz_io, hz_pager_fault};
 use crate::fault::{self, EBADF, Refusal, refusal};
+use crate::held;
 use hojzmated::{PageIo, ReadFault};
 use std::cell::{Cell, RefCell};
 use std::ffi::{c_int, c_void};
@@ -146,12 +147,6 @@ struct Inside {
     outer: *const Inside,
 }
 
-/// Whether this thread is in no callback at all.
-#[inline]
-pub fn is_outside() -> bool {
-    INSIDE.get().is_null()
-}
-
 /// Whether this thread is in a callback of the device.
 #[inline]
 pub fn is_inside(device: &Device) -> bool {
@@ -175,7 +170,7 @@ fn called(device: &Device, callback: impl FnOnce() -> c_int) -> c_int {
     // What the callback was refused is its own affair.
     let before = fault::newest();
     INSIDE.set(&inside);
-    let answer = callback();
+    let answer = held::in_callback(callback);
     INSIDE.set(inside.outer);
     before.note();
     answer

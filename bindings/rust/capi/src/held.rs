@@ -2,148 +2,173 @@
 //! or had: so a handle of one that was given back, or of another thread, is known.
 //!
 //! A call looks into the slots of its own thread alone, by the number in the handle. It takes no lock,
-//! and memory only if the thread has more pages than ever before.
+//! and memory only if the thread has more pages than ever before. The first slot is for a latch, and is no
+//! memory of its own: a thread that has one latch at a time finds it at once.
 use crate::abi::{HZ_DEADLOCK, HZ_EXCLUSIVE, HZ_PINNED, HZ_SHARED, HZ_UNKNOWN_PASS, hz_ref};
 use crate::fault::{Refusal, refusal};
 use crate::{Pager, Place};
-use hojzmated::{Error, PageMut, PagePin, PageRef};
+use hojzmated::{Error, Left, PageMut, PagePin, PageRef};
 use std::cell::Cell;
-use std::mem::{self, ManuallyDrop};
+use std::mem::ManuallyDrop;
 use std::ptr;
 use std::sync::atomic::{AtomicU64, Ordering};
 use std::sync::{Mutex, MutexGuard, PoisonError};
 
-/// A guard of a page, as a call of the pager gives it. Its pager is there as long as the guard is: it
-/// is not freed before.
-pub trait Guard: Sized {
-    /// `HZ_PINNED`, `HZ_SHARED` or `HZ_EXCLUSIVE`.
-    const HOW: u32;
-    const IS_LATCH: bool = true;
-
-    /// Where the bytes of the page are, or null for a pin without a latch.
-    fn place(&self) -> *const u8;
-
-    fn own(self) -> Own;
+/// A page that is fixed, or none. Its pager is there as long as it is: it is not freed before.
+pub enum Held {
+    None,
+    Pinned(#[expect(dead_code, reason = "it is only dropped")] PagePin<'static>),
+    Shared(PageRef<'static>),
+    Exclusive(PageMut<'static>),
 }
 
-/// A guard without what it is, which the slot says: so that it is moved in registers.
-pub union Own {
-    pinned: ManuallyDrop<PagePin<'static>>,
-    shared: ManuallyDrop<PageRef<'static>>,
-    exclusive: ManuallyDrop<PageMut<'static>>,
-    none: (),
-}
-
-impl Guard for PagePin<'static> {
-    const HOW: u32 = HZ_PINNED;
-    const IS_LATCH: bool = false;
-
-    #[inline]
-    fn place(&self) -> *const u8 {
-        ptr::null()
+impl Held {
+    #[inline(always)]
+    fn how(&self) -> u32 {
+        match self {
+            Held::None => 0,
+            Held::Pinned(_) => HZ_PINNED,
+            Held::Shared(_) => HZ_SHARED,
+            Held::Exclusive(_) => HZ_EXCLUSIVE,
+        }
     }
 
-    #[inline]
-    fn own(self) -> Own {
-        let pinned = ManuallyDrop::new(self);
-        Own { pinned }
-    }
-}
-
-impl Guard for PageRef<'static> {
-    const HOW: u32 = HZ_SHARED;
-
-    #[inline]
-    fn place(&self) -> *const u8 {
-        self.as_ptr()
+    #[inline(always)]
+    fn is_latch(&self) -> bool {
+        matches!(self, Held::Shared(_) | Held::Exclusive(_))
     }
 
-    #[inline]
-    fn own(self) -> Own {
-        let shared = ManuallyDrop::new(self);
-        Own { shared }
+    /// Where the bytes of the page are, or null without a latch.
+    #[inline(always)]
+    fn bytes(&self) -> *const u8 {
+        match self {
+            Held::None | Held::Pinned(_) => ptr::null(),
+            Held::Shared(page) => page.as_ptr(),
+            Held::Exclusive(page) => page.bytes().as_ptr(),
+        }
+    }
+
+    /// Whether it is a latch of this page of the pager, or of any page of it where none is told.
+    fn is_latch_of(&self, pager: &Pager, page: Option<u64>) -> bool {
+        let (is_of, own) = match self {
+            Held::None | Held::Pinned(_) => return false,
+            Held::Shared(page) => (page.is_of(pager), page.page()),
+            Held::Exclusive(page) => (page.is_of(pager), page.page()),
+        };
+        is_of && page.is_none_or(|page| page == own)
     }
 }
 
-impl Guard for PageMut<'static> {
-    const HOW: u32 = HZ_EXCLUSIVE;
-
-    #[inline]
-    fn place(&self) -> *const u8 {
-        self.bytes().as_ptr()
-    }
-
-    #[inline]
-    fn own(self) -> Own {
-        let exclusive = ManuallyDrop::new(self);
-        Own { exclusive }
-    }
+/// A place for a page that is fixed.
+pub struct Slot {
+    // Not dropped with the slot: so the table of a thread has nothing to drop.
+    held: Cell<ManuallyDrop<Held>>,
+    /// That of the page. Where the slot is free, that of the next one, or a multiple of BLOCK: then it has
+    /// none, and needs a block.
+    serial: Cell<u64>,
+    /// Where it is free, the next slot of the list that is, or the end of the list.
+    next_free: Cell<u32>,
 }
 
-/// A page that is fixed, or none. It has a cache line of its own, so that its number leads to it by a
-/// shift.
-#[repr(align(64))]
-struct Slot {
-    /// That of the page, or 0 where the slot is free.
-    serial: u64,
-    guard: Own,
-    /// What the guard is.
-    how: u32,
-    /// Where it is free, the next slot that is, or the end of the list.
-    next_free: u32,
-    pager: *const Pager,
-    page: u64,
-}
+/// Slots take serial numbers in blocks, so none comes twice.
+static NEXT_BLOCK: AtomicU64 = AtomicU64::new(0);
+const BLOCK: u64 = 1 << 16;
 
 impl Slot {
     const fn none(next_free: u32) -> Slot {
         Slot {
-            serial: 0,
-            guard: Own { none: () },
-            how: 0,
-            next_free,
-            pager: ptr::null(),
-            page: 0,
+            held: Cell::new(ManuallyDrop::new(Held::None)),
+            serial: Cell::new(0),
+            next_free: Cell::new(next_free),
         }
     }
 
+    #[inline(always)]
+    fn held(&self) -> &Held {
+        // SAFETY: no function changes it while another of this module refers to it.
+        unsafe { &*self.held.as_ptr() }
+    }
+
+    #[inline(always)]
     fn is_taken(&self) -> bool {
-        self.serial != 0
+        !matches!(self.held(), Held::None)
     }
 
-    /// Drops the guard, if there is one.
-    #[inline]
-    fn clear(&mut self) {
-        if mem::take(&mut self.serial) == 0 {
-            return;
+    /// Whether it has a serial number for a page.
+    #[inline(always)]
+    fn has_serial(&self) -> bool {
+        self.serial.get() % BLOCK != 0
+    }
+
+    /// Makes sure of that.
+    fn number(&self) {
+        if !self.has_serial() {
+            let block = NEXT_BLOCK.fetch_add(1, Ordering::Relaxed);
+            self.serial.set(block * BLOCK + 1);
         }
-        // SAFETY: the guard is what `how` says, and is not used once the serial number is 0.
-        unsafe {
-            match self.how {
-                HZ_SHARED => ManuallyDrop::drop(&mut self.guard.shared),
-                HZ_EXCLUSIVE => ManuallyDrop::drop(&mut self.guard.exclusive),
-                _ => ManuallyDrop::drop(&mut self.guard.pinned),
-            }
+    }
+
+    /// Keeps a page in this slot, which is free and has this number, and writes its handle to a place.
+    #[inline(always)]
+    fn put(&self, held: Held, page: u64, slot: u32, out: Place<hz_ref>) {
+        let handle = hz_ref {
+            bytes: held.bytes(),
+            page,
+            serial: self.serial.get(),
+            slot,
+            how: held.how(),
+        };
+        self.held.set(ManuallyDrop::new(held));
+        out.put(handle);
+    }
+
+    /// Keeps a latch in the [ready slot](ready_slot), and writes its handle to a place. Returns 0, the
+    /// answer of a call that did what was asked.
+    #[inline(always)]
+    pub fn keep(&self, latch: Held, page: u64, out: Place<hz_ref>) -> u16 {
+        self.put(latch, page, 0, out);
+        0
+    }
+
+    /// Lets the latch of a handle go, if it is here. It can't panic.
+    #[inline(always)]
+    fn let_go(&self, given: &hz_ref) -> Option<Left<'static>> {
+        if self.serial.get() != given.serial {
+            return None;
         }
+        // The latch first, for which others wait: it has to wait for what was stored before it.
+        let left = match self.held() {
+            // SAFETY: what is read here is not used in the slot any more, which is free then.
+            Held::Shared(page) => unsafe { ptr::read(page) }.let_go(),
+            // SAFETY: as above.
+            Held::Exclusive(page) => unsafe { ptr::read(page) }.let_go(),
+            Held::None | Held::Pinned(_) => return None,
+        };
+        self.held.set(ManuallyDrop::new(Held::None));
+        self.serial.set(self.serial.get() + 1);
+        Some(left)
+    }
+
+    /// Drops what it has.
+    fn clear(&self) {
+        let held = self.held.replace(ManuallyDrop::new(Held::None));
+        self.serial.set(self.serial.get() + 1);
+        drop(ManuallyDrop::into_inner(held));
     }
 }
 
-impl Drop for Slot {
-    fn drop(&mut self) {
-        self.clear();
-    }
-}
-
-/// The slots of a thread. They are a boxed list, taken apart, which [`End`] drops.
+/// The slots of a thread.
 struct Table {
-    slots: Cell<*mut Slot>,
-    /// How many slots there are.
+    /// For a latch. Its number is 0.
+    first: Slot,
+    /// How many latches are in other slots, and how many callbacks this thread is in.
+    in_the_way: Cell<u32>,
+    /// The slots from number 1 on: a boxed list, taken apart, which [`End`] drops.
+    others: Cell<*mut Slot>,
+    /// How many of these there are.
     count: Cell<u32>,
-    /// The first free slot, or the end of the list.
+    /// The first of these that is free, or the end of the list.
     free: Cell<u32>,
-    /// How many of the pages are latched.
-    latches: Cell<u32>,
-    next_serial: Cell<u64>,
 }
 
 thread_local! {
@@ -170,35 +195,23 @@ pub fn none_ends() -> MutexGuard<'static, ()> {
     ENDING.lock().unwrap_or_else(PoisonError::into_inner)
 }
 
-/// Threads take serial numbers in blocks, so none comes twice. None is 0.
-static NEXT_BLOCK: AtomicU64 = AtomicU64::new(1);
-const BLOCK: u64 = 1 << 32;
-const FIRST_SLOTS: usize = 16;
+/// A fix looks through all slots where the thread has a latch already: so there are few at first.
+const FIRST_SLOTS: usize = 4;
 
 impl Table {
     const fn new() -> Table {
         Table {
-            slots: Cell::new(ptr::null_mut()),
+            first: Slot::none(0),
+            in_the_way: Cell::new(0),
+            others: Cell::new(ptr::null_mut()),
             count: Cell::new(0),
             free: Cell::new(0),
-            latches: Cell::new(0),
-            next_serial: Cell::new(0),
         }
     }
 
-    #[inline]
-    fn serial(&self) -> u64 {
-        let mut serial = self.next_serial.get();
-        if serial % BLOCK == 0 {
-            serial = NEXT_BLOCK.fetch_add(1, Ordering::Relaxed) * BLOCK + 1;
-        }
-        self.next_serial.set(serial + 1);
-        serial
-    }
-
-    /// Takes the slots out as a list, and leaves none.
+    /// Takes the list of slots out, and leaves none.
     fn take(&self) -> Box<[Slot]> {
-        let (slots, count) = (self.slots.replace(ptr::null_mut()), self.count.replace(0));
+        let (slots, count) = (self.others.replace(ptr::null_mut()), self.count.replace(0));
         self.free.set(0);
         if slots.is_null() {
             return Box::default();
@@ -208,15 +221,15 @@ impl Table {
         unsafe { Box::from_raw(slots) }
     }
 
-    /// Sets the slots, of which there are none, to those of a list.
+    /// Sets the list of slots, of which there are none, to this one.
     fn set(&self, slots: Box<[Slot]>, free: u32) {
         self.count.set(slots.len() as u32);
-        self.slots.set(Box::into_raw(slots).cast());
+        self.others.set(Box::into_raw(slots).cast());
         self.free.set(free);
     }
 
-    /// Makes sure that a slot is free. It is refused once the thread's own objects are gone, as in a
-    /// handler of `atexit`.
+    /// Makes sure that a slot of the list is free. It is refused once the thread's own objects are gone,
+    /// as in a handler of `atexit`.
     #[inline]
     fn make_room(&self) -> Result<(), Refusal> {
         match self.free.get() == self.count.get() {
@@ -241,81 +254,88 @@ impl Table {
         Ok(())
     }
 
-    /// A slot of these, which nothing else refers to now.
+    #[inline]
+    fn move_in_the_way(&self, by: i32) {
+        self.in_the_way
+            .set(self.in_the_way.get().wrapping_add_signed(by));
+    }
+
+    /// A slot of the list.
     ///
     /// # Safety
-    /// There are more slots than this number.
+    /// There are more slots in it than this number.
     #[inline]
-    unsafe fn slot(&self, number: u32) -> *mut Slot {
+    unsafe fn other(&self, number: u32) -> &Slot {
         // SAFETY: the caller says so.
-        unsafe { self.slots.get().add(number as usize) }
+        unsafe { &*self.others.get().add(number as usize) }
     }
 
-    /// Keeps a guard, and writes its handle to a place. A slot is free.
-    #[inline(always)]
-    fn put<G: Guard>(&self, guard: G, pager: &Pager, page: u64, out: Place<hz_ref>) {
-        let (slot, serial, bytes) = (self.free.get(), self.serial(), guard.place());
-        // SAFETY: it is in the list of free slots.
-        let own = unsafe { &mut *self.slot(slot) };
-        self.free.set(own.next_free);
-        let latches = self.latches.get() + u32::from(G::IS_LATCH);
-        self.latches.set(latches);
-        (own.guard, own.how) = (guard.own(), G::HOW);
-        (own.pager, own.page, own.serial) = (pager, page, serial);
-        out.put(hz_ref {
-            bytes,
-            page,
-            serial,
-            slot,
-            how: G::HOW,
-        });
-    }
-
-    /// The slot of a handle, if that is of a page which this thread has. The serial number of a slot that
-    /// is free is 0.
-    #[inline]
-    fn of(&self, given: &hz_ref) -> Option<*mut Slot> {
-        if given.slot >= self.count.get() {
-            return None;
+    /// Keeps a page, and writes its handle to a place. A slot of the list is free.
+    fn put(&self, held: Held, page: u64, out: Place<hz_ref>) {
+        if held.is_latch() && !self.first.is_taken() {
+            self.first.number();
+            return self.first.put(held, page, 0, out);
         }
-        // SAFETY: there are more slots.
-        let slot = unsafe { self.slot(given.slot) };
-        // SAFETY: as above.
-        let serial = unsafe { (*slot).serial };
-        (serial == given.serial && serial != 0).then_some(slot)
+        let number = self.free.get();
+        // SAFETY: it is in the list of free slots.
+        let slot = unsafe { self.other(number) };
+        self.free.set(slot.next_free.get());
+        self.move_in_the_way(i32::from(held.is_latch()));
+        slot.number();
+        slot.put(held, page, number + 1, out);
     }
 
+    /// The slot of a handle, if that is of a page which this thread has.
     #[inline]
+    fn of(&self, given: &hz_ref) -> Option<&Slot> {
+        let slot = match given.slot.checked_sub(1) {
+            None => &self.first,
+            // SAFETY: there are more slots.
+            Some(number) if number < self.count.get() => unsafe { self.other(number) },
+            Some(_) => return None,
+        };
+        (slot.serial.get() == given.serial && slot.is_taken()).then_some(slot)
+    }
+
     fn give_back(&self, given: &hz_ref) -> Option<()> {
-        // SAFETY: nothing else refers to a slot now.
-        let slot = unsafe { &mut *self.of(given)? };
-        // The latch first, for which others wait: it has to wait for what was stored before it.
+        let slot = self.of(given)?;
+        let is_latch = slot.held().is_latch();
         slot.clear();
-        slot.next_free = self.free.get();
-        self.free.set(given.slot);
-        let latches = self.latches.get() - u32::from(slot.how != HZ_PINNED);
-        self.latches.set(latches);
+        if let Some(number) = given.slot.checked_sub(1) {
+            slot.next_free.set(self.free.replace(number));
+            self.move_in_the_way(-i32::from(is_latch));
+        }
         Some(())
+    }
+
+    /// Whether the thread has no latch, and is in no callback.
+    #[inline(always)]
+    fn is_clear(&self) -> bool {
+        !self.first.is_taken() && self.in_the_way.get() == 0
     }
 
     #[cold]
     #[inline(never)]
-    fn has(&self, is_in_the_way: impl Fn(&Slot) -> bool) -> bool {
-        // SAFETY: there are more slots than each of these numbers.
-        let slots = (0..self.count.get()).map(|number| unsafe { &*self.slot(number) });
-        slots.filter(|it| it.is_taken()).any(is_in_the_way)
+    fn has(&self, is_in_the_way: impl Fn(&Held) -> bool) -> bool {
+        // SAFETY: there are more slots in the list than each of these numbers.
+        let others = (0..self.count.get()).map(|number| unsafe { self.other(number) });
+        let mut slots = others.chain([&self.first]);
+        slots.any(|it| is_in_the_way(it.held()))
     }
 
     /// Gives back all that the thread has.
     fn end(&self) {
-        let slots = self.take();
-        self.latches.set(0);
-        if slots.iter().any(Slot::is_taken) {
+        let others = self.take();
+        self.in_the_way.set(0);
+        if self.first.is_taken() || others.iter().any(Slot::is_taken) {
             let _ending = none_ends();
-            drop(slots);
+            self.first.clear();
+            others.iter().for_each(Slot::clear);
             #[cfg(test)]
             crate::ends::linger();
         }
+        // So it is not ready for another page, which nobody would give back.
+        self.first.serial.set(0);
     }
 }
 
@@ -329,63 +349,60 @@ fn table() -> &'static Table {
 
 /// Refused where this thread has a latch that is in the way.
 #[inline]
-fn check(is_in_the_way: impl Fn(&Slot) -> bool) -> Result<(), Refusal> {
+fn check(is_in_the_way: impl Fn(&Held) -> bool) -> Result<(), Refusal> {
     let table = table();
-    match table.latches.get() {
-        0 => Ok(()),
-        _ if table.has(is_in_the_way) => Err(refusal(HZ_DEADLOCK)),
-        _ => Ok(()),
+    if !table.is_clear() && table.has(is_in_the_way) {
+        return Err(refusal(HZ_DEADLOCK));
     }
+    Ok(())
 }
 
 /// Refused where this thread has a latch of the page.
-#[inline]
 pub fn check_latch(pager: &Pager, page: u64) -> Result<(), Refusal> {
-    check(|it| it.page == page && ptr::eq(it.pager, pager) && it.how != HZ_PINNED)
+    check(|it| it.is_latch_of(pager, Some(page)))
 }
 
 /// Refused where this thread has the exclusive latch of the page, or of any page where none is told.
 pub fn check_exclusive(pager: &Pager, page: Option<u64>) -> Result<(), Refusal> {
-    check(|it| {
-        let is_it = ptr::eq(it.pager, pager) && page.is_none_or(|page| it.page == page);
-        is_it && it.how == HZ_EXCLUSIVE
-    })
+    check(|it| matches!(it, Held::Exclusive(_)) && it.is_latch_of(pager, page))
 }
 
-/// Whether this thread has no latch, and a free slot.
-#[inline(always)]
-pub fn is_ready() -> bool {
-    let table = table();
-    table.latches.get() == 0 && table.free.get() != table.count.get()
+/// Makes a callback. No latch comes into the first slot meanwhile without a further look.
+pub fn in_callback<T>(callback: impl FnOnce() -> T) -> T {
+    table().move_in_the_way(1);
+    let answer = callback();
+    table().move_in_the_way(-1);
+    answer
 }
 
-/// Makes sure that this thread can keep one more guard.
+/// Makes sure that this thread can keep one more page.
 pub fn make_room() -> Result<(), Refusal> {
     table().make_room()
 }
 
-/// Keeps a guard for this thread, and writes its handle to a place.
-pub fn keep<G: Guard>(
-    guard: G,
-    pager: &Pager,
-    page: u64,
-    out: Place<hz_ref>,
-) -> Result<(), Refusal> {
+/// Keeps a page for this thread, and writes its handle to a place.
+pub fn keep(held: Held, page: u64, out: Place<hz_ref>) -> Result<(), Refusal> {
     // A callback may have taken the slot that was free.
     make_room()?;
-    keep_at_once(guard, pager, page, out);
+    table().put(held, page, out);
     Ok(())
 }
 
-/// The same where a slot is free. Returns 0, the answer of a call that did what was asked.
+/// The first slot of this thread, where a latch may come into it without a further look: the thread has
+/// no other, and is in no callback; and as one was there before, the slot is cleared at the thread's end.
 #[inline(always)]
-pub fn keep_at_once<G: Guard>(guard: G, pager: &Pager, page: u64, out: Place<hz_ref>) -> u16 {
-    table().put(guard, pager, page, out);
-    0
+pub fn ready_slot() -> Option<&'static Slot> {
+    let table = table();
+    (table.is_clear() && table.first.has_serial()).then_some(&table.first)
 }
 
-/// Gives a page back. No other code of this thread runs meanwhile.
-#[inline]
+/// Gives a latch back, if it is in the first slot. No other code of this thread runs meanwhile.
+#[inline(always)]
+pub fn let_go_of_first(given: &hz_ref) -> Option<Left<'static>> {
+    table().first.let_go(given)
+}
+
+/// Gives a page back, whichever slot it is in.
 pub fn give_back(given: &hz_ref) -> Result<(), Refusal> {
     let given_back = table().give_back(given);
     given_back.ok_or_else(|| refusal(HZ_UNKNOWN_PASS))
@@ -399,9 +416,10 @@ pub fn with_exclusive<T>(
     call: impl FnOnce(Option<&mut PageMut<'static>>) -> T,
 ) -> Result<T, Refusal> {
     let slot = table().of(given).ok_or_else(|| refusal(HZ_UNKNOWN_PASS))?;
-    // SAFETY: nothing else refers to a slot now.
-    let slot = unsafe { &mut *slot };
-    // SAFETY: the guard is what `how` says.
-    let page = (slot.how == HZ_EXCLUSIVE).then(|| unsafe { &mut *slot.guard.exclusive });
+    // SAFETY: nothing else refers to it now.
+    let page = match unsafe { &mut **slot.held.as_ptr() } {
+        Held::Exclusive(page) => Some(page),
+        _ => None,
+    };
     Ok(call(page))
 }

@@ -25,10 +25,10 @@ mod header;
 mod held;
 
 use abi::*;
-use device::{Callbacks, Device, PageFile, is_inside, is_outside, with_scratch};
+use device::{Callbacks, Device, PageFile, is_inside, with_scratch};
 use fault::{Refusal, refusal, refusal_of, refused_at};
-use held::Guard;
-use hojzmated::{Error, PagePin, PagerError, SharedConfig, SharedPager};
+use held::Held;
+use hojzmated::{Error, Left, Missed, MissedAlone, PagerError, SharedConfig, SharedPager};
 use std::any::Any;
 use std::ffi::{c_char, c_int};
 use std::panic::{AssertUnwindSafe, catch_unwind};
@@ -111,10 +111,16 @@ unsafe fn pager_of(handle: *const hz_pager) -> Outcome<&'static Pager> {
 unsafe fn waiting_pager_of(handle: *const hz_pager) -> Outcome<&'static Pager> {
     // SAFETY: the caller says so.
     let pager = unsafe { pager_of(handle) }?;
-    if is_inside(pager.io()) {
-        return Err(refusal(HZ_IN_CALLBACK));
-    }
+    check_outside(pager)?;
     Ok(pager)
+}
+
+/// Refused where this thread is in a callback of the pager.
+fn check_outside(pager: &Pager) -> Outcome {
+    match is_inside(pager.io()) {
+        true => Err(refusal(HZ_IN_CALLBACK)),
+        false => Ok(()),
+    }
 }
 
 /// The value of a field, or its default.
@@ -255,102 +261,97 @@ pub unsafe extern "C" fn hz_pager_fix(
     out: *mut hz_ref,
 ) -> u16 {
     // SAFETY: as the header says.
-    let Some((own, place)) = (unsafe { ready(pager, out) }) else {
-        // SAFETY: as the header says.
-        return unsafe { fix_otherwise(pager, page, how, out) };
+    let (out, own) = match unsafe { to(out).and_then(|out| Ok((out, pager_of(pager)?))) } {
+        Ok(both) => both,
+        Err(refused) => return refused.number(),
     };
     match how {
-        HZ_SHARED => match own.read_at_once(page) {
-            Ok(latched) => held::keep_at_once(latched, own, page, place),
-            Err(pin) => read_slowly(own, page, pin, place),
-        },
-        HZ_EXCLUSIVE => match own.write_at_once(page) {
-            Some(latched) => held::keep_at_once(latched, own, page, place),
-            None => write_slowly(own, page, place),
-        },
-        // SAFETY: as the header says.
-        _ => unsafe { fix_otherwise(pager, page, how, out) },
+        HZ_SHARED => fix_shared(own, page, out),
+        HZ_EXCLUSIVE => fix_exclusive(own, page, out),
+        _ => fix_otherwise(own, page, how, out),
     }
 }
 
-/// The pager of a handle and the place for a page, where nothing is in the way of a fix: this thread is
-/// in no callback, and has no latch and room for one more page.
-///
-/// # Safety
-/// Those of [`pager_of`] and [`to`].
 #[inline(always)]
-unsafe fn ready(
-    handle: *const hz_pager,
-    out: *mut hz_ref,
-) -> Option<(&'static Pager, Place<hz_ref>)> {
-    if out.is_null() || !is_outside() || !held::is_ready() {
-        return None;
+fn fix_shared(own: &'static Pager, page: u64, out: Place<hz_ref>) -> u16 {
+    let Some(slot) = held::ready_slot() else {
+        return fix_otherwise(own, page, HZ_SHARED, out);
+    };
+    match own.read_at_once(page) {
+        Ok(latched) => slot.keep(Held::Shared(latched), page, out),
+        Err(missed) => read_slowly(own, page, missed, out),
     }
-    // SAFETY: the caller says so.
-    let own = unsafe { handle.as_ref()?.own.as_ref()? };
-    Some((own, Place(out)))
 }
 
-// It is of C so that it never unwinds: then it can be called in the place of its caller.
+#[inline(always)]
+fn fix_exclusive(own: &'static Pager, page: u64, out: Place<hz_ref>) -> u16 {
+    let Some(slot) = held::ready_slot() else {
+        return fix_otherwise(own, page, HZ_EXCLUSIVE, out);
+    };
+    match own.write_at_once(page) {
+        Ok(latched) => slot.keep(Held::Exclusive(latched), page, out),
+        Err(missed) => write_slowly(own, page, missed, out),
+    }
+}
+
+// These are of C so that they never unwind: then they can be called in the place of their caller.
+
 #[allow(improper_ctypes_definitions)]
 #[cold]
 #[inline(never)]
 extern "C" fn read_slowly(
     own: &'static Pager,
     page: u64,
-    pin: Option<PagePin<'static>>,
+    missed: Missed<'static>,
     out: Place<hz_ref>,
 ) -> u16 {
-    answer(|| kept(own.read_slowly(page, pin), own, page, out))
+    answer(|| kept(own.read_slowly(page, missed), Held::Shared, page, out))
 }
 
+#[allow(improper_ctypes_definitions)]
 #[cold]
 #[inline(never)]
-extern "C" fn write_slowly(own: &'static Pager, page: u64, out: Place<hz_ref>) -> u16 {
-    answer(|| kept(own.write_slowly(page), own, page, out))
-}
-
-/// Keeps the guard of a page, if it was had.
-fn kept<G: Guard>(
-    fixed: Result<G, PagerError>,
-    own: &Pager,
+extern "C" fn write_slowly(
+    own: &'static Pager,
     page: u64,
+    missed: MissedAlone<'static>,
     out: Place<hz_ref>,
-) -> Outcome {
-    match fixed {
-        Ok(guard) => held::keep(guard, own, page, out),
-        Err(error) => Err(refused_at(page, error)),
-    }
+) -> u16 {
+    answer(|| kept(own.write_slowly(page, missed), Held::Exclusive, page, out))
 }
 
 /// Fixes a page of which nothing is known yet.
-///
-/// # Safety
-/// As the header says.
 #[inline(never)]
-unsafe extern "C" fn fix_otherwise(
-    pager: *const hz_pager,
-    page: u64,
-    how: u32,
-    out: *mut hz_ref,
-) -> u16 {
+extern "C" fn fix_otherwise(own: &'static Pager, page: u64, how: u32, out: Place<hz_ref>) -> u16 {
     answer(|| {
-        // SAFETY: the caller says so.
-        let (out, own) = unsafe { (to(out)?, waiting_pager_of(pager)?) };
+        check_outside(own)?;
         if how | HZ_TRY != TRY_PINNED {
             held::check_latch(own, page)?;
         }
         held::make_room()?;
         match how {
-            HZ_SHARED => kept(own.read(page), own, page, out),
-            HZ_EXCLUSIVE => kept(own.write(page), own, page, out),
-            HZ_PINNED => kept(own.pin(page), own, page, out),
-            TRY_PINNED => kept(own.try_pin(page), own, page, out),
-            TRY_SHARED => kept(had(own.try_read(page)), own, page, out),
-            TRY_EXCLUSIVE => kept(had(own.try_write(page)), own, page, out),
+            HZ_SHARED => kept(own.read(page), Held::Shared, page, out),
+            HZ_EXCLUSIVE => kept(own.write(page), Held::Exclusive, page, out),
+            HZ_PINNED => kept(own.pin(page), Held::Pinned, page, out),
+            TRY_PINNED => kept(own.try_pin(page), Held::Pinned, page, out),
+            TRY_SHARED => kept(had(own.try_read(page)), Held::Shared, page, out),
+            TRY_EXCLUSIVE => kept(had(own.try_write(page)), Held::Exclusive, page, out),
             _ => Err(refused_at(page, Error::BadSettings)),
         }
     })
+}
+
+/// Keeps the guard of a page, if it was had, as one of its kind.
+fn kept<G>(
+    fixed: Result<G, PagerError>,
+    kind: impl FnOnce(G) -> Held,
+    page: u64,
+    out: Place<hz_ref>,
+) -> Outcome {
+    match fixed {
+        Ok(guard) => held::keep(kind(guard), page, out),
+        Err(error) => Err(refused_at(page, error)),
+    }
 }
 
 /// A latch, or that it is not free.
@@ -369,7 +370,7 @@ pub unsafe extern "C" fn hz_pager_new_page(
         let (out, pager) = unsafe { (to(out)?, waiting_pager_of(pager)?) };
         held::check_latch(pager, page)?;
         held::make_room()?;
-        kept(pager.new_page(page), pager, page, out)
+        kept(pager.new_page(page), Held::Exclusive, page, out)
     })
 }
 
@@ -435,10 +436,31 @@ fn put_own(
 
 #[unsafe(no_mangle)]
 pub unsafe extern "C" fn hz_pager_unfix(page: *const hz_ref) -> u16 {
+    // SAFETY: as the header says.
+    let page = match unsafe { given(page) } {
+        Ok(page) => page,
+        Err(refused) => return refused.number(),
+    };
+    match held::let_go_of_first(page) {
+        Some(left) if left.is_all() => 0,
+        Some(left) => finish(left),
+        None => unfix_otherwise(page),
+    }
+}
+
+#[allow(improper_ctypes_definitions)]
+#[cold]
+#[inline(never)]
+extern "C" fn finish(left: Left<'static>) -> u16 {
     answer(|| {
-        // SAFETY: as the header says.
-        held::give_back(unsafe { given(page) }?)
+        left.finish();
+        Ok(())
     })
+}
+
+#[inline(never)]
+extern "C" fn unfix_otherwise(page: &hz_ref) -> u16 {
+    answer(|| held::give_back(page))
 }
 
 #[unsafe(no_mangle)]

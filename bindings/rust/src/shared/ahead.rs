@@ -117,8 +117,9 @@ impl<F> SharedPager<F> {
     /// Has pages read that are in no frame, by the threads of
     /// [`start_readers`](SharedPager::start_readers), and does not wait for that. It returns how many are
     /// to be read: none where no such threads were started, and no more than have room among the 4,096
-    /// that may wait. Pages that are in frames or that the file does not have are left out. It goes on to the
-    /// end of `pages` while there is room.
+    /// that may wait. Pages that are in frames or that the file does not have are left out. It goes on while
+    /// there is room, to the end of `pages` or to as many numbers as the file has pages: so `98..` is the rest
+    /// of the file.
     ///
     /// It is a hint. A page is not read where no page may make way for it, or one whose log record is
     /// not durable would have to; nor where the device fails; nor if it came and went meanwhile, by a
@@ -134,7 +135,8 @@ impl<F> SharedPager<F> {
             let noted = part.seats.noted(own);
             part.seats.of(own).is_none().then_some(Want { page, noted })
         };
-        for page in pages.into_iter().filter_map(want) {
+        let most = self.config().pages as usize;
+        for page in pages.into_iter().take(most).filter_map(want) {
             few[count] = page;
             count += 1;
             if count == FEW {

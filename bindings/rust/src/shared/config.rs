@@ -23,6 +23,10 @@ use std::time::Duration;
 pub struct SharedConfig {
     /// The number of pages of the file, which are numbered from 0: 1 to 1,048,576 for each part, so
     /// at most 67,108,864.
+    ///
+    /// It stays as it is while the pager is there. A number takes some 8 bytes of memory, also while the file
+    /// has no such page yet: so a file that grows gets as many as it may come to have. Several files share
+    /// the numbers as they grow, each by a run of them at a time, as in the example `files`.
     pub pages: u64,
     /// The page size in bytes: 16 to 65,536, a multiple of 16.
     pub page_size: usize,

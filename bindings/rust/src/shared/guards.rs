@@ -1,11 +1,13 @@
 //! The guards of a page: `PagePin` without a latch, `PageRef` under a shared one, `PageMut` alone.
+use super::pager::SharedPager;
 use super::part::Part;
 use super::seats::Seat;
-use super::word::{PIN, READER, WRITER};
+use super::word::{PIN, READER, WRITER, Word};
 use crate::{Error, Result};
 use std::cell::Cell;
 use std::fmt;
 use std::marker::PhantomData;
+use std::mem::ManuallyDrop;
 use std::ops::{Bound, Deref, Range, RangeBounds};
 use std::slice;
 use std::sync::RwLockReadGuard;
@@ -56,6 +58,10 @@ impl<'a, const KIND: u64> Share<'a, KIND> {
         self.part.in_file(self.seat.page())
     }
 
+    fn is_of<F>(&self, pager: &SharedPager<F>) -> bool {
+        self.part.is_of(pager.number)
+    }
+
     /// The greatest LSN of the page's writes since it was read into its frame, or 0.
     fn lsn(&self) -> u64 {
         let state = self.part.lock();
@@ -80,6 +86,38 @@ impl<const KIND: u64> Drop for Share<'_, KIND> {
     #[inline]
     fn drop(&mut self) {
         self.part.leave(self.seat, KIND);
+    }
+}
+
+impl<'a, const KIND: u64> Share<'a, KIND> {
+    /// The first step of a drop.
+    #[inline(always)]
+    fn let_go(self) -> Left<'a> {
+        let Share { part, seat } = *ManuallyDrop::new(self);
+        let word = seat.leave(KIND);
+        Left { part, seat, word }
+    }
+}
+
+/// What a guard left that was let go.
+#[doc(hidden)]
+#[must_use = "more may have to be done"]
+pub struct Left<'a> {
+    part: &'a Part,
+    seat: &'a Seat,
+    word: Word,
+}
+
+impl Left<'_> {
+    /// Whether that is all.
+    #[inline(always)]
+    pub fn is_all(&self) -> bool {
+        self.part.is_left_so(self.word)
+    }
+
+    /// The second step of a drop, if that was not all: a thread may wait for the latch.
+    pub fn finish(self) {
+        self.part.leave_slowly(self.seat, self.word);
     }
 }
 
@@ -198,6 +236,19 @@ impl<'a> PageRef<'a> {
         PageRef(share, PhantomData)
     }
 
+    /// The first step of a drop: the latch is free. It can't panic.
+    #[doc(hidden)]
+    #[inline(always)]
+    pub fn let_go(self) -> Left<'a> {
+        self.0.let_go()
+    }
+
+    /// Whether it is a page of this pager.
+    #[doc(hidden)]
+    pub fn is_of<F>(&self, pager: &SharedPager<F>) -> bool {
+        self.0.is_of(pager)
+    }
+
     /// The number of the page.
     pub fn page(&self) -> u64 {
         self.0.page()
@@ -232,6 +283,19 @@ impl<'a> PageMut<'a> {
     #[inline]
     pub(super) fn new(share: Share<'a, WRITER>) -> PageMut<'a> {
         PageMut(share, PhantomData)
+    }
+
+    /// The first step of a drop: the latch is free. It can't panic.
+    #[doc(hidden)]
+    #[inline(always)]
+    pub fn let_go(self) -> Left<'a> {
+        self.0.let_go()
+    }
+
+    /// Whether it is a page of this pager.
+    #[doc(hidden)]
+    pub fn is_of<F>(&self, pager: &SharedPager<F>) -> bool {
+        self.0.is_of(pager)
     }
 
     /// The number of the page.

@@ -19,6 +19,8 @@ struct Turn {
     is_taken: bool,
     /// The greatest LSN that a thread waits for.
     wanted: u64,
+    /// The number of times that a thread slept for another's turn.
+    waits: u64,
 }
 
 /// What a call is told that would wait for the function of the engine in which it is.
@@ -27,6 +29,11 @@ const OWN_TURN: &str = "make_log_durable called the pager, which needs the log f
 impl Log {
     pub(super) fn durable(&self) -> u64 {
         self.durable.load(Ordering::Acquire)
+    }
+
+    /// The number of times that a thread slept until another had made the log durable.
+    pub(super) fn waits(&self) -> u64 {
+        self.turn().waits
     }
 
     /// Notes that the log is durable up to this LSN.
@@ -78,6 +85,7 @@ impl Log {
             return Err(PagerError::Log { lsn: own, source });
         }
         turn.wanted = turn.wanted.max(own);
+        turn.waits += 1;
         let waited = self.ended.wait(turn);
         Ok(waited.unwrap_or_else(PoisonError::into_inner))
     }

@@ -22,7 +22,8 @@ mod write_outs;
 
 pub use ahead::Readers;
 pub use config::SharedConfig;
-pub use guards::{PageMut, PagePin, PageRef};
+pub use guards::{Left, PageMut, PagePin, PageRef};
 pub use owned::{OwnedMut, OwnedPin, OwnedRef};
 pub use pager::SharedPager;
+pub use pins::{Missed, MissedAlone};
 pub use upkeep::{Cleaner, Stats};

@@ -3,8 +3,8 @@ use super::SharedConfig;
 use super::ahead::Ahead;
 use super::guards::{PageMut, PagePin, PageRef};
 use super::log::Log;
-use super::part::{Fix, Locked, Part, Unlogged, turn_of};
-use super::pins::{Came, Joined, PASSES};
+use super::part::{Fix, Locked, Part, Unlogged, turn_of, turn_of_power};
+use super::pins::{Came, Joined, Missed, MissedAlone, PASSES};
 use super::seats::list_of;
 use super::within::{self, Work};
 use super::work::{Reading, Writing};
@@ -230,18 +230,28 @@ impl<F> SharedPager<F> {
         if page >= self.config.pages {
             return Err(Error::OutOfPage);
         }
+        Ok(self.place_of_any(page))
+    }
+
+    /// The same of any number. Each part has as many places for pages as another: so some numbers beyond
+    /// the last page have one too, at which there is never a page.
+    #[inline]
+    fn place_of_any(&self, page: u64) -> (&Part, u64) {
         let parts = self.parts.len() as u64;
-        let (place, own) = match self.shift {
-            Some(shift) => (page & (parts - 1), page >> shift),
-            None => (page % parts, page / parts),
+        let (part, own) = match self.shift {
+            Some(shift) => {
+                let row = page >> shift;
+                let turned = page.wrapping_add(turn_of_power(row, shift));
+                (turned & (parts - 1), row)
+            }
+            None => {
+                let (place, row) = (page % parts, page / parts);
+                let turned = place + turn_of(row, parts);
+                let beyond = if turned < parts { 0 } else { parts };
+                (turned - beyond, row)
+            }
         };
-        let turned = place + turn_of(own, parts);
-        let part = if turned < parts {
-            turned
-        } else {
-            turned - parts
-        };
-        Ok((&self.parts[part as usize], own))
+        (&self.parts[part as usize], own)
     }
 }
 
@@ -260,23 +270,17 @@ impl<F: PageIo> SharedPager<F> {
     pub fn read(&self, page: u64) -> Result<PageRef<'_>, PagerError> {
         match self.read_at_once(page) {
             Ok(latched) => Ok(latched),
-            Err(pin) => self.read_slowly(page, pin),
+            Err(missed) => self.read_slowly(page, missed),
         }
     }
 
     /// The first step of [`read`](SharedPager::read): the page, where its pass is out and its latch
-    /// free. Else what [`read_slowly`](SharedPager::read_slowly) goes on with. It can't panic.
+    /// free. Else what [`read_slowly`](SharedPager::read_slowly) has to go on with. It can't panic.
     #[doc(hidden)]
     #[inline(always)]
-    pub fn read_at_once(&self, page: u64) -> Result<PageRef<'_>, Option<PagePin<'_>>> {
-        let Ok((part, own)) = self.place(page) else {
-            return Err(None);
-        };
-        match part.join_read(own) {
-            Joined::Latched(page) => Ok(page),
-            Joined::Pinned(pin) => Err(Some(pin)),
-            Joined::Not => Err(None),
-        }
+    pub fn read_at_once(&self, page: u64) -> Result<PageRef<'_>, Missed<'_>> {
+        let (part, own) = self.place_of_any(page);
+        part.join_read(own)
     }
 
     /// The second step: it may wait, use the device, and fail.
@@ -286,16 +290,14 @@ impl<F: PageIo> SharedPager<F> {
     pub fn read_slowly<'a>(
         &'a self,
         page: u64,
-        pin: Option<PagePin<'a>>,
+        missed: Missed<'a>,
     ) -> Result<PageRef<'a>, PagerError> {
-        let pin = match pin {
-            Some(pin) => pin,
-            None => {
-                let (part, own) = self.place(page)?;
-                self.fix(part, own, WAITING)?
-            }
-        };
-        Ok(pin.into_read()?)
+        let (part, own) = self.place(page)?;
+        match part.join_read_slowly(own, missed) {
+            Joined::Latched(page) => Ok(page),
+            Joined::Pinned(pin) => Ok(pin.into_read()?),
+            Joined::Not => Ok(self.fix(part, own, WAITING)?.into_read()?),
+        }
     }
 
     /// Returns a page under its shared latch, without waiting for a latch or a pin: None where the
@@ -307,7 +309,11 @@ impl<F: PageIo> SharedPager<F> {
     #[inline]
     pub fn try_read(&self, page: u64) -> Result<Option<PageRef<'_>>, PagerError> {
         let (part, own) = self.place(page)?;
-        match part.join_read(own) {
+        let missed = match part.join_read(own) {
+            Ok(page) => return Ok(Some(page)),
+            Err(missed) => missed,
+        };
+        match part.join_read_slowly(own, missed) {
             Joined::Latched(page) => Ok(Some(page)),
             Joined::Pinned(pin) => Ok(pin.try_into_read()),
             Joined::Not => {
@@ -325,17 +331,17 @@ impl<F: PageIo> SharedPager<F> {
     #[inline(always)]
     pub fn write(&self, page: u64) -> Result<PageMut<'_>, PagerError> {
         match self.write_at_once(page) {
-            Some(latched) => Ok(latched),
-            None => self.write_slowly(page),
+            Ok(latched) => Ok(latched),
+            Err(missed) => self.write_slowly(page, missed),
         }
     }
 
     /// The first step of [`write`](SharedPager::write): the page, where its pass is out and its latch
-    /// free. It can't panic.
+    /// free. Else what [`write_slowly`](SharedPager::write_slowly) has to go on with. It can't panic.
     #[doc(hidden)]
     #[inline(always)]
-    pub fn write_at_once(&self, page: u64) -> Option<PageMut<'_>> {
-        let (part, own) = self.place(page).ok()?;
+    pub fn write_at_once(&self, page: u64) -> Result<PageMut<'_>, MissedAlone<'_>> {
+        let (part, own) = self.place_of_any(page);
         part.join_write(own)
     }
 
@@ -343,8 +349,13 @@ impl<F: PageIo> SharedPager<F> {
     #[doc(hidden)]
     #[cold]
     #[inline(never)]
-    pub fn write_slowly(&self, page: u64) -> Result<PageMut<'_>, PagerError> {
+    pub fn write_slowly<'a>(
+        &'a self,
+        page: u64,
+        missed: MissedAlone<'a>,
+    ) -> Result<PageMut<'a>, PagerError> {
         let (part, own) = self.place(page)?;
+        part.undo(missed);
         Ok(self.pinned(part, own, WAITING)?.into_write()?)
     }
 
@@ -357,8 +368,9 @@ impl<F: PageIo> SharedPager<F> {
     pub fn try_write(&self, page: u64) -> Result<Option<PageMut<'_>>, PagerError> {
         let (part, own) = self.place(page)?;
         match part.join_write(own) {
-            Some(page) => Ok(Some(page)),
-            None => {
+            Ok(page) => Ok(Some(page)),
+            Err(missed) => {
+                part.undo(missed);
                 let pin = self.pinned(part, own, NOT_WAITING);
                 pin.map(PagePin::try_into_write)
             }

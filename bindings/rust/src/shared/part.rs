@@ -154,6 +154,11 @@ impl Part {
         })
     }
 
+    /// Whether it is a part of the pager with this number.
+    pub(super) fn is_of(&self, pager: u64) -> bool {
+        self.pager == pager
+    }
+
     /// Returns the number in the file of a page of this part.
     pub(super) fn in_file(&self, page: u64) -> u64 {
         let row = self.number + self.parts - turn_of(page, self.parts);
@@ -680,9 +685,18 @@ fn fetch(byte: *const u8) {
 /// apart were all in one. A row is as many pages as there are parts.
 #[inline]
 pub(super) fn turn_of(row: u64, parts: u64) -> u64 {
-    let mixed = row.wrapping_mul(0x9e37_79b9_7f4a_7c15) >> 32;
+    let mixed = row.wrapping_mul(MIXER) >> 32;
     (mixed * parts) >> 32
 }
+
+/// The same where the parts are a power of two: it is the highest bits of the product, and comes in the
+/// lowest ones, with others above it.
+#[inline]
+pub(super) fn turn_of_power(row: u64, exponent: u32) -> u64 {
+    row.wrapping_mul(MIXER).rotate_left(exponent)
+}
+
+const MIXER: u64 = 0x9e37_79b9_7f4a_7c15;
 
 /// Returns the place where threads sleep that wait for the device work on a page.
 fn place_of(page: u64) -> usize {
@@ -732,5 +746,23 @@ impl State {
 
     pub(super) fn image(&mut self) -> Image {
         self.images.pop().unwrap_or_default()
+    }
+}
+
+#[cfg(test)]
+mod tests {
+    use super::*;
+
+    // Where a page is found at once has to be where the others look for it.
+    #[test]
+    fn turns_of_powers() {
+        for exponent in 0..7u32 {
+            let parts = 1u64 << exponent;
+            let rows = (0..1000).chain([u64::MAX - 1, u64::MAX]);
+            for row in rows {
+                let turn = turn_of_power(row, exponent) % parts;
+                assert_eq!(turn, turn_of(row, parts));
+            }
+        }
     }
 }

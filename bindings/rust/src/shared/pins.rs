@@ -2,18 +2,30 @@
 use super::guards::{PageMut, PagePin, PageRef, Share};
 use super::part::{Fix, Locked, Part, State};
 use super::seats::{Pinned, Seat};
-use super::word::{PIN, READER, Word};
+use super::word::{PIN, READER, WRITER, Word};
 use crate::{Error, Pass, Result};
 
-/// What came of a pin without the lock.
-pub(super) enum Joined<'a, G> {
+/// What came of a shared latch without the lock.
+pub(super) enum Joined<'a> {
     /// The page is pinned, with its latch.
-    Latched(G),
+    Latched(PageRef<'a>),
     /// The page is pinned. Its latch was not free.
     Pinned(PagePin<'a>),
     /// The pass of the page is not out.
     Not,
 }
+
+/// What a shared latch that was not had at once left: a seat whose word has a share more, and what that
+/// word was; or nothing. It is two words, so that it is passed on in registers.
+#[must_use = "the share is still in the word"]
+pub struct Missed<'a> {
+    seat: Option<&'a Seat>,
+    before: Word,
+}
+
+/// The same of an exclusive latch: the seat of another page, which was latched in vain.
+#[must_use = "the latch is still taken"]
+pub struct MissedAlone<'a>(Option<&'a Seat>);
 
 /// How a page came to be in its frame.
 #[derive(Clone, Copy, PartialEq, Eq)]
@@ -31,28 +43,31 @@ pub(super) const PASSES: usize = 32;
 impl Part {
     /// Pins a page whose pass is out under its shared latch, without the lock and without asking the
     /// pool.
-    #[inline]
-    pub(super) fn join_read(&self, page: u64) -> Joined<'_, PageRef<'_>> {
-        let Some(seat) = self.seats.out(page) else {
-            return Joined::Not;
+    // Always: else what it gives goes through memory.
+    #[inline(always)]
+    pub(super) fn join_read(&self, page: u64) -> Result<PageRef<'_>, Missed<'_>> {
+        let seat = self.seats.out(page);
+        let Some(found) = seat else {
+            let before = Word::default();
+            return Err(Missed { seat, before });
         };
-        let before = seat.join(READER);
-        if !before.is_readable_at_once() || seat.page() != page {
-            return self.join_read_slowly(seat, before, page);
+        let before = found.join(READER);
+        if !before.is_readable_at_once() || found.page() != page {
+            return Err(Missed { seat, before });
         }
-        seat.touch(self.now());
+        found.touch(self.now());
         // SAFETY: the pass was out, and the latch free.
-        Joined::Latched(PageRef::new(unsafe { Share::new(self, seat) }))
+        Ok(PageRef::new(unsafe { Share::new(self, found) }))
     }
 
+    /// Goes on where that was not had.
     #[cold]
     #[inline(never)]
-    fn join_read_slowly<'a>(
-        &'a self,
-        seat: &'a Seat,
-        before: Word,
-        page: u64,
-    ) -> Joined<'a, PageRef<'a>> {
+    pub(super) fn join_read_slowly<'a>(&'a self, page: u64, missed: Missed<'a>) -> Joined<'a> {
+        let Missed { seat, before } = missed;
+        let Some(seat) = seat else {
+            return Joined::Not;
+        };
         if !before.is_pinnable() || seat.page() != page {
             self.leave(seat, READER);
             return Joined::Not;
@@ -71,23 +86,28 @@ impl Part {
         Joined::Pinned(PagePin::new(unsafe { Share::new(self, seat) }))
     }
 
-    /// The same with the exclusive latch, if that is free.
+    /// The same with the exclusive latch, if that is free and it is not time for a reference.
     // Always: else what it gives goes through memory.
     #[inline(always)]
-    pub(super) fn join_write(&self, page: u64) -> Option<PageMut<'_>> {
-        let seat = self.seats.out(page)?;
-        let before = seat.join_alone()?;
-        // SAFETY: the pass was out, and the latch free.
-        let share = unsafe { Share::new(self, seat) };
+    pub(super) fn join_write(&self, page: u64) -> Result<PageMut<'_>, MissedAlone<'_>> {
+        let free = self.seats.out(page).filter(|seat| seat.join_alone());
+        let Some(seat) = free else {
+            return Err(MissedAlone(None));
+        };
         // Another page may have the seat since it was looked up.
         if seat.page() != page {
-            return None;
+            return Err(MissedAlone(free));
         }
         seat.touch(self.now());
-        if before.is_due() {
-            self.count(seat);
+        // SAFETY: the pass was out, and the latch free.
+        Ok(PageMut::new(unsafe { Share::new(self, seat) }))
+    }
+
+    /// Takes a latch back that was taken in vain.
+    pub(super) fn undo(&self, missed: MissedAlone<'_>) {
+        if let Some(seat) = missed.0 {
+            self.leave(seat, WRITER);
         }
-        Some(PageMut::new(share))
     }
 
     /// The same without a latch.
@@ -111,13 +131,20 @@ impl Part {
     #[inline]
     pub(super) fn leave(&self, seat: &Seat, share: u64) {
         let left = seat.leave(share);
-        if !left.is_quiet() || self.has_waiting() {
+        if !self.is_left_so(left) {
             self.leave_slowly(seat, left);
         }
     }
 
+    /// Whether nothing has to be done by who left a word so.
+    #[inline]
+    pub(super) fn is_left_so(&self, left: Word) -> bool {
+        left.is_quiet() && !self.has_waiting()
+    }
+
+    #[cold]
     #[inline(never)]
-    fn leave_slowly(&self, seat: &Seat, left: Word) {
+    pub(super) fn leave_slowly(&self, seat: &Seat, left: Word) {
         if left.is_awaited() {
             self.hand_over(seat);
         }

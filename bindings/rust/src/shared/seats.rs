@@ -87,18 +87,19 @@ impl Seat {
         Word(self.word.fetch_add(share + JOIN, Ordering::Acquire))
     }
 
-    /// Takes the exclusive latch with a join, if the pass is out and nobody has a latch or is to get it.
+    /// Takes the exclusive latch with a join, if the pass is out and nobody has a latch or is to get it,
+    /// and it is not time for a reference.
     #[inline]
-    pub(super) fn join_alone(&self) -> Option<Word> {
+    pub(super) fn join_alone(&self) -> bool {
         let word = Word(self.word.load(Ordering::Relaxed));
-        if !word.is_writable() {
-            return None;
+        if !word.is_writable_at_once() {
+            return false;
         }
         let next = word.0.wrapping_add(WRITER + JOIN);
         let swapped =
             self.word
                 .compare_exchange(word.0, next, Ordering::Acquire, Ordering::Relaxed);
-        swapped.ok().map(|_| word)
+        swapped.is_ok()
     }
 
     /// Takes a share back, and returns what is left. All use of the page comes before whatever

@@ -25,8 +25,8 @@ pub struct Stats {
     pub pinned: usize,
     /// Pages that were written to since they were saved.
     pub unsaved: usize,
-    /// The number of times that a thread slept until a page was read, written out or unpinned, or its
-    /// latch was free.
+    /// The number of times that a thread slept until a page was read, written out or unpinned, its latch
+    /// was free, or another thread had made the log durable.
     pub waits: u64,
     /// Pages in no frame whose references are kept, approximately: the pools below do not tell it, so
     /// it is counted as pages leave, are read again, and are forgotten. See
@@ -55,7 +55,10 @@ impl<F> SharedPager<F> {
 
     /// Returns the counters.
     pub fn stats(&self) -> Stats {
-        let mut stats = Stats::default();
+        let mut stats = Stats {
+            waits: self.log.waits(),
+            ..Stats::default()
+        };
         for part in &self.parts {
             let state = part.lock();
             let (config, counts) = (state.pool.config(), state.pool.stats());

@@ -33,7 +33,7 @@ const USERS: u64 = READERS | PINS | WRITER;
 const TOO_MANY: u64 = (READERS / 2 + 1) | (PINS / 2 + PIN / 2);
 
 /// What a word was before something was added to it or taken from it, or what it is.
-#[derive(Clone, Copy)]
+#[derive(Clone, Copy, Default)]
 pub(super) struct Word(pub(super) u64);
 
 impl Word {
@@ -90,11 +90,11 @@ impl Word {
         self.0 & (OUT | WRITER | CLOSED | TOO_MANY | DUE) == OUT
     }
 
-    /// Whether the exclusive latch may be added: the pass is out, and nobody has a latch or is to get
-    /// one.
+    /// Whether the exclusive latch may be added: the pass is out, nobody has a latch or is to get one,
+    /// and it is not time for a reference.
     #[inline]
-    pub(super) fn is_writable(self) -> bool {
-        self.0 & (OUT | LATCHED | CLOSED) == OUT
+    pub(super) fn is_writable_at_once(self) -> bool {
+        self.0 & (OUT | LATCHED | CLOSED | DUE) == OUT
     }
 
     #[inline]

@@ -16,6 +16,8 @@ thread_local! {
     static REFUSED: Cell<usize> = const { Cell::new(0) };
     /// How many blocks this thread has got and not given back, of those that are counted.
     pub static BLOCKS: Cell<isize> = const { Cell::new(0) };
+    /// How many bytes this thread has asked for in all.
+    pub static ASKED: Cell<usize> = const { Cell::new(0) };
 }
 
 fn is_refused() -> bool {
@@ -23,8 +25,9 @@ fn is_refused() -> bool {
     before == Ok(1)
 }
 
-fn count(blocks: isize) {
+fn count(blocks: isize, bytes: usize) {
     let _ = BLOCKS.try_with(|it| it.set(it.get() + blocks));
+    let _ = ASKED.try_with(|it| it.set(it.get() + bytes));
 }
 
 /// The C library's `malloc`, but for the request that is refused.
@@ -33,7 +36,7 @@ unsafe extern "C" fn malloc(size: usize) -> *mut c_void {
     if is_refused() {
         return ptr::null_mut();
     }
-    count(1);
+    count(1, size);
     // SAFETY: this is `malloc` of the GNU C library by its other name.
     unsafe { __libc_malloc(size) }
 }
@@ -44,7 +47,7 @@ unsafe extern "C" fn calloc(items: usize, size: usize) -> *mut c_void {
     if is_refused() {
         return ptr::null_mut();
     }
-    count(1);
+    count(1, items * size);
     // SAFETY: this is `calloc` of the GNU C library by its other name.
     unsafe { __libc_calloc(items, size) }
 }
@@ -57,7 +60,7 @@ unsafe extern "C" fn posix_memalign(out: *mut *mut c_void, align: usize, size: u
     if is_refused() {
         return NO_MEMORY;
     }
-    count(1);
+    count(1, size);
     // SAFETY: `memalign` takes the alignments that `posix_memalign` does, and `out` may be written to.
     unsafe {
         *out = __libc_memalign(align, size);
@@ -71,7 +74,7 @@ unsafe extern "C" fn realloc(old: *mut c_void, size: usize) -> *mut c_void {
     if is_refused() {
         return ptr::null_mut();
     }
-    count(old.is_null().into());
+    count(old.is_null().into(), size);
     // SAFETY: this is `realloc` of the GNU C library by its other name, and the caller keeps to it.
     unsafe { __libc_realloc(old, size) }
 }
@@ -79,7 +82,7 @@ unsafe extern "C" fn realloc(old: *mut c_void, size: usize) -> *mut c_void {
 /// The C library's `free`.
 #[unsafe(no_mangle)]
 unsafe extern "C" fn free(old: *mut c_void) {
-    count(if old.is_null() { 0 } else { -1 });
+    count(if old.is_null() { 0 } else { -1 }, 0);
     // SAFETY: this is `free` of the GNU C library by its other name, and the caller keeps to it.
     unsafe { __libc_free(old) }
 }

@@ -1,5 +1,5 @@
 //! A pager that threads share, where memory is wanting. One thread uses it here.
-use crate::requests::{BLOCKS, counting, refusing};
+use crate::requests::{ASKED, BLOCKS, counting, refusing};
 use crate::{Memory, again};
 use hojzmated::{Error, PageIo, ReadFault, SharedConfig, SharedPager};
 use std::cell::{Cell, RefCell};
@@ -165,4 +165,19 @@ fn use_pages_of(pager: &SharedPager<Memory>) {
     drop(pin);
     pager.checkpoint().unwrap();
     pager.write(1).unwrap().put(0, &[8], 9).unwrap();
+}
+
+// Four bytes in the core, four beside it, and a bit or so. It is memory that is asked for as the pager is
+// made, and not more each time that a list grows.
+#[test]
+fn what_a_page_number_takes() {
+    let asked = |pages| {
+        let (config, before) = (SharedConfig::with_parts(pages, 16, 4, 4), ASKED.get());
+        let memory = Memory(RefCell::new([[0; 16]; 4]));
+        drop(SharedPager::new(&config, memory).unwrap());
+        ASKED.get() - before
+    };
+    let (few, many) = (1 << 12, 1 << 20);
+    let each = (asked(many) - asked(few)) as f64 / (many - few) as f64;
+    assert!((8.0..8.5).contains(&each), "{each} bytes");
 }

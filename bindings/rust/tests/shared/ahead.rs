@@ -144,6 +144,18 @@ fn what_is_left_out() {
     assert_eq!(pager.io().asked(), [Asked::Read(3), Asked::Read(7)]);
 }
 
+// Of numbers without end, as many are looked at as the file has pages.
+#[test]
+fn numbers_without_end() {
+    let pager = shared(8);
+    let readers = pager.start_readers(1).unwrap();
+    drop(pager.read(3).unwrap());
+    assert_eq!(pager.prefetch(PAGES - 2..), 2);
+    wait_for(&pager, [PAGES - 2, PAGES - 1]);
+    assert_eq!(pager.prefetch(std::iter::repeat(3)), 0);
+    drop(readers);
+}
+
 /// A device that panics where it is asked how many pages it takes.
 #[derive(Default)]
 struct Untold(Device);

@@ -8,6 +8,9 @@ use std::sync::{Arc, Mutex, PoisonError, RwLock, TryLockError};
 use std::thread;
 use std::time::Duration;
 
+/// So many pages at the end of the file are for scratch: a thread writes to one, and drops it.
+const SCRATCH: u64 = 4;
+
 pub struct Settings {
     pub pages: u64,
     pub frames: usize,
@@ -27,6 +30,8 @@ pub struct Engine {
     /// How many pages were made. The others are made one after another.
     made: AtomicU64,
     making: Mutex<()>,
+    /// The scratch pages that nobody uses.
+    scratch: Mutex<Vec<u64>>,
     /// A thread has it shared from a log record to the end of its write.
     records: RwLock<()>,
     checkpoints: Mutex<()>,
@@ -78,6 +83,7 @@ impl Engine {
             newest: (0..settings.pages).map(|_| AtomicU64::default()).collect(),
             made: AtomicU64::new(settings.pages / 2),
             making: Mutex::default(),
+            scratch: Mutex::new((settings.pages - SCRATCH..settings.pages).collect()),
             records: RwLock::default(),
             checkpoints: Mutex::default(),
             several_in: settings.several_in,
@@ -129,6 +135,7 @@ impl Engine {
             190..192 => self.checkpoint()?,
             192 => drop(self.pager.purge()?),
             193 => assert!(self.pager.stats().resident <= self.pager.config().frames),
+            194..197 => self.use_scratch()?,
             _ => self.make_page()?,
         }
         Ok(())
@@ -224,11 +231,27 @@ impl Engine {
         Ok(())
     }
 
+    /// How many pages are not for scratch.
+    fn lasting(&self) -> usize {
+        self.newest.len() - SCRATCH as usize
+    }
+
+    /// Writes to a page that no other thread uses, and drops it, whatever the device has of it.
+    fn use_scratch(&self) -> Result<(), PagerError> {
+        let free = self.scratch.lock().unwrap().pop();
+        let Some(scratch) = free.map(|page| Scratch { engine: self, page }) else {
+            return Ok(());
+        };
+        self.change(&mut [self.pager.new_page(scratch.page)?]);
+        self.change(&mut [self.pager.write(scratch.page)?]);
+        Ok(())
+    }
+
     /// Makes a page that was never written.
     fn make_page(&self) -> Result<(), PagerError> {
         let _turn = self.making.lock().unwrap_or_else(PoisonError::into_inner);
         let page = self.made.load(Ordering::Acquire);
-        if page < self.pager.config().pages {
+        if page < self.lasting() as u64 {
             self.change(&mut [self.pager.new_page(page)?]);
             self.made.store(page + 1, Ordering::Release);
         }
@@ -246,7 +269,8 @@ impl Engine {
         let device = self.pager.io();
         let (end, newest) = {
             let _no_record = self.records.write().unwrap();
-            let newest = self.newest.iter().map(|it| it.load(Ordering::Acquire));
+            let newest = self.newest[..self.lasting()].iter();
+            let newest = newest.map(|it| it.load(Ordering::Acquire));
             (device.end_of_log() + 1, newest.collect::<Vec<_>>())
         };
         let redo = self.pager.checkpoint()?.unwrap_or(end);
@@ -270,7 +294,7 @@ impl Engine {
         assert_eq!(stats.pinned, 0);
         assert!(stats.totals.evictions > 0 && stats.totals.failed > 0);
         assert_eq!(self.pager.checkpoint().unwrap(), None);
-        for (page, newest) in (0..).zip(&self.newest) {
+        for (page, newest) in (0..).zip(&self.newest[..self.lasting()]) {
             let newest = newest.load(Ordering::Acquire);
             assert_eq!(number_in(&device.bytes(page)), newest, "page {page}");
             assert_eq!(device.kept(page), newest, "page {page}");
@@ -279,5 +303,22 @@ impl Engine {
         assert_eq!((stats.unsaved, self.pager.redo_from()), (0, None));
         assert_eq!(stats.totals.writes, device.writes.load(Ordering::Relaxed));
         assert!(stats.totals.faults >= device.reads.load(Ordering::Relaxed));
+    }
+}
+
+/// A scratch page that a thread uses.
+struct Scratch<'a> {
+    engine: &'a Engine,
+    page: u64,
+}
+
+impl Drop for Scratch<'_> {
+    /// Drops the page, also where its use did not go well.
+    fn drop(&mut self) {
+        let pager = &self.engine.pager;
+        pager.discard(self.page).unwrap();
+        assert!(!pager.is_resident(self.page));
+        self.engine.newest[self.page as usize].store(0, Ordering::Release);
+        self.engine.scratch.lock().unwrap().push(self.page);
     }
 }

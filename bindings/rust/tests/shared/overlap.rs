@@ -4,7 +4,6 @@ use crate::device::{Asked, Gate, pager, put};
 use hojzmated::{Error, Totals};
 use std::sync::Arc;
 use std::thread;
-use std::time::Duration;
 
 /// A gate at which requests stop, those that are meant.
 fn gate_for(
@@ -139,7 +138,9 @@ fn log_is_made_durable_for_all_who_wait() {
             let pager = &pager;
             threads.spawn(move || pager.flush(page).unwrap());
         }
-        thread::sleep(Duration::from_millis(200));
+        while pager.stats().waits < 6 {
+            thread::yield_now();
+        }
         gate.open();
     });
     let mut logs = pager.io().asked();

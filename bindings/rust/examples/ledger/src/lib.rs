@@ -2,13 +2,17 @@
 //!
 //! Where a thread panics with a lock of the store, others panic as soon as they want it: nobody goes
 //! on with a step that is half done.
-pub mod bank;
 mod device;
-mod edit;
+mod load;
 mod log;
+mod mini;
 mod node;
+mod record;
+mod space;
 mod store;
+mod sum;
 mod transaction;
+mod tree;
 mod verify;
 
 pub use device::{Device, DiskFile};

@@ -4,12 +4,16 @@
 //! Each half begins with a mark, and then has records, one after the other. The LSN of a record is
 //! where it begins in a log without end. A mark has a number, its turn, which the records behind it
 //! have too: so what the half had before is not taken for them. Redo reads both halves.
+//!
+//! Records go into a buffer, and many of them to the device by one write: where somebody wants them
+//! durable, or the buffer is full.
 use crate::device::Device;
-use crate::node::{half, word};
+use crate::node::word;
+use crate::sum::{self, crc32c};
 use crate::{Error, Result, bad};
-use std::collections::BTreeMap;
-use std::sync::{LazyLock, Mutex, OnceLock};
-use std::{array, fmt, io};
+use std::sync::atomic::{AtomicU64, Ordering};
+use std::sync::{Mutex, MutexGuard, OnceLock};
+use std::{array, fmt, io, mem};
 
 /// A record begins with its LSN, its turn, its length and the checksum of all but that.
 const HEAD: usize = 24;
@@ -20,21 +24,25 @@ const MARK_SUM: usize = 56;
 const MARK: u64 = 4096;
 /// No record has LSN 0, which the pager takes for none.
 const FIRST: u64 = 64;
+/// The buffer goes out where it would have more than this, or more than a part of a half.
+const MOST_BUFFERED: u64 = 1 << 18;
+const BUFFERS_OF_HALF: u64 = 8;
 
-/// The bodies that pages have by the records so far, and the newest record of each.
-pub type Bodies = BTreeMap<u64, (Vec<u8>, u64)>;
-
-/// A half with the LSNs from `start` to `end`.
-#[derive(Clone, Copy, Default)]
-pub struct Half {
+/// The half into which records go, and those that are not written out.
+struct Tail {
     turn: u64,
-    pub start: u64,
-    pub end: u64,
-    /// The redo point: what records say that begin before is in the page file.
+    start: u64,
+    end: u64,
+    /// The redo point: what records say that begin before is in the page file. And the one that is
+    /// written down: redo begins there after a crash.
     redo: u64,
-    /// Records that begin before are durable.
-    pub durable: u64,
+    marked: u64,
+    /// The records up to the end that are not on the device.
+    buffer: Vec<u8>,
 }
+
+/// A half that redo reads: its turn, where its records begin, and where they end.
+type Half = [u64; 3];
 
 /// The log, and what is known of its device.
 pub struct Log {
@@ -42,41 +50,16 @@ pub struct Log {
     /// What never changes: the store's own number, which its page file has too, its pages, their
     /// size, and how many bytes the log has.
     pub fixed: [u64; 4],
-    half: Mutex<Half>,
-    /// Whoever has it syncs for all. A failed sync may be told once only, so it is one at a time.
-    syncing: Mutex<()>,
+    tail: Mutex<Tail>,
+    /// Whoever has it writes the buffer out, and syncs for all. A failed sync may be told once only, so
+    /// it is one at a time. What it has is the buffer to go on with meanwhile.
+    writing: Mutex<Vec<u8>>,
+    /// Records that begin before are durable.
+    durable: AtomicU64,
+    /// The halves that redo has to read.
+    redone: Vec<Half>,
     /// Why nothing is logged any more.
     stopped: OnceLock<String>,
-}
-
-impl Half {
-    /// Makes the changes of each record, and finds the end. Tells whether a part of a record follows.
-    fn redo(&mut self, device: &dyn Device, size: u64, bodies: &mut Bodies) -> Result<bool> {
-        loop {
-            let at = MARK + self.end - self.start;
-            let place = self.turn % 2 * size + at;
-            let mut record = vec![0; HEAD];
-            if at + HEAD as u64 <= size {
-                device.read_at(&mut record, place)?;
-            }
-            if word(&record, 0) != self.end || word(&record, 8) != self.turn {
-                return Ok(false);
-            }
-            let length = word(&record, 16) & 0xffff_ffff;
-            if length < HEAD as u64 || at + length > size {
-                return Ok(true);
-            }
-            record.resize(length as usize, 0);
-            device.read_at(&mut record, place)?;
-            if record[SUM..HEAD] != sum_of(&record) {
-                return Ok(true);
-            }
-            if redo(&record[HEAD..], self.end, bodies).is_none() {
-                return bad(format!("the log's record {} is wrong", self.end));
-            }
-            self.end += length;
-        }
-    }
 }
 
 impl Log {
@@ -86,19 +69,11 @@ impl Log {
         Ok(write_mark(device, fixed, [0, FIRST, FIRST])?)
     }
 
-    /// Opens a log. Gives the bodies that redo makes, and whether a part of a record follows. Once
-    /// they are in the page file, [`turn_over`](Log::turn_over) is to be called.
-    pub fn open(device: Box<dyn Device>) -> Result<(Log, Bodies, bool)> {
-        let (size, mut marks) = (device.size()?, Vec::new());
-        for place in [0, size / 2] {
-            let mut mark = [0; MARK_SUM + 4];
-            if size >= 2 * MARK {
-                device.read_at(&mut mark, place)?;
-            }
-            marks.extend(words_of(&mark));
-        }
-        marks.sort_by_key(|mark| mark[4]);
-        let Some(&[fixed @ .., _, _, redo]) = marks.last() else {
+    /// Opens a log, and finds its end. Tells whether a part of a record follows. Then comes
+    /// [`redo`](Log::redo), and once its changes are in the page file [`turn_over`](Log::turn_over).
+    pub fn open(device: Box<dyn Device>) -> Result<(Log, bool)> {
+        let (size, marks) = (device.size()?, marks_of(&*device)?);
+        let Some(&[fixed @ .., turn, start, redo]) = marks.last() else {
             return bad("the log has no good mark");
         };
         if size != fixed[3] {
@@ -106,65 +81,166 @@ impl Log {
         }
         // What a process wrote that was killed may be in the system's memory alone.
         device.sync()?;
-        let (mut half, mut bodies, mut is_torn) = (Half::default(), Bodies::new(), false);
-        for [.., turn, start, _] in marks.into_iter().filter(|mark| mark[5] >= redo) {
-            let older_end = half.end;
-            (half.turn, half.start, half.end) = (turn, start, start);
-            is_torn |= half.redo(&*device, size / 2, &mut bodies)?;
-            // Records came here only once those before the mark were durable.
-            if 0 < older_end && older_end < start && start < half.end {
-                return bad(format!("the log lost its records from {older_end} on"));
-            }
-        }
-        (half.durable, half.redo) = (half.end, half.end);
-        let log = Log {
+        let mut log = Log {
             device,
             fixed,
-            half: Mutex::new(half),
-            syncing: Mutex::new(()),
+            tail: Mutex::new(Tail {
+                turn,
+                start,
+                end: start,
+                redo,
+                marked: redo,
+                buffer: Vec::new(),
+            }),
+            writing: Mutex::default(),
+            durable: AtomicU64::new(start),
+            redone: Vec::new(),
             stopped: OnceLock::new(),
         };
-        Ok((log, bodies, is_torn))
+        let mut is_torn = false;
+        for [.., turn, start, _] in marks.into_iter().filter(|mark| mark[5] >= redo) {
+            let mut end = start;
+            is_torn |= log.each([turn, start, u64::MAX], |lsn, record| {
+                end = lsn + record.len() as u64;
+                Ok(())
+            })?;
+            // Records came here only once those before the mark were durable.
+            let older = log.redone.last().map_or(start, |half| half[2]);
+            if older < start && start < end {
+                return bad(format!("the log lost its records from {older} on"));
+            }
+            log.redone.push([turn, start, end]);
+            let mut tail = log.tail();
+            (tail.end, tail.redo) = (end, end);
+            log.durable.store(end, Ordering::Release);
+        }
+        Ok((log, is_torn))
     }
 
-    /// How far the log has come.
-    pub fn half(&self) -> Half {
-        *self.half.lock().unwrap()
+    /// Goes over the records of a half up to an end, each with its LSN and its head. Tells whether a part
+    /// of one follows.
+    fn each(
+        &self,
+        [turn, start, end]: Half,
+        mut work: impl FnMut(u64, &[u8]) -> Result<()>,
+    ) -> Result<bool> {
+        let (size, mut lsn, mut record) = (self.fixed[3] / 2, start, Vec::new());
+        while lsn < end {
+            let at = MARK + lsn - start;
+            let place = turn % 2 * size + at;
+            record.clear();
+            record.resize(HEAD, 0);
+            if at + HEAD as u64 <= size {
+                self.device.read_at(&mut record, place)?;
+            }
+            if word(&record, 0) != lsn || word(&record, 8) != turn {
+                return Ok(false);
+            }
+            let length = word(&record, 16) & 0xffff_ffff;
+            if length < HEAD as u64 || at + length > size {
+                return Ok(true);
+            }
+            record.resize(length as usize, 0);
+            self.device.read_at(&mut record, place)?;
+            if record[SUM..HEAD] != crc32c(&[&record[HEAD..], &record[..SUM]]).to_le_bytes() {
+                return Ok(true);
+            }
+            work(lsn, &record)?;
+            lsn += length;
+        }
+        Ok(false)
     }
 
-    /// Writes a record behind the others and gives its LSN. None where the half has no room: then a
+    /// Has the work redo each record from the redo point on, in their order: it gets its LSN and body.
+    pub fn redo(&self, mut work: impl FnMut(u64, &[u8]) -> Result<()>) -> Result<()> {
+        for half in &self.redone {
+            self.each(*half, |lsn, record| work(lsn, &record[HEAD..]))?;
+        }
+        Ok(())
+    }
+
+    /// Where the half begins into which records go.
+    pub fn start(&self) -> u64 {
+        self.tail().start
+    }
+
+    /// Where the next record begins.
+    pub fn end(&self) -> u64 {
+        self.tail().end
+    }
+
+    /// Where redo begins after a crash.
+    pub fn marked(&self) -> u64 {
+        self.tail().marked
+    }
+
+    /// Records that begin before this are durable.
+    pub fn durable(&self) -> u64 {
+        self.durable.load(Ordering::Acquire)
+    }
+
+    fn tail(&self) -> MutexGuard<'_, Tail> {
+        self.tail.lock().unwrap()
+    }
+
+    /// Puts a record behind the others and gives its LSN. None where the half has no room: then a
     /// checkpoint makes some. The record is not durable yet.
     pub fn append(&self, body: &[u8]) -> Result<Option<u64>> {
         self.is_running()?;
-        let (half_size, size) = (self.fixed[3] / 2, (HEAD + body.len()) as u64);
-        if MARK + size > half_size {
+        let (half, size) = (self.fixed[3] / 2, (HEAD + body.len()) as u64);
+        if MARK + size > half {
             return Err(Error::NoRoom("the transaction is too large for the log"));
         }
-        let mut half = self.half.lock().unwrap();
-        let (lsn, at) = (half.end, MARK + half.end - half.start);
-        if at + size > half_size {
+        // The body goes first into the checksum, so that nobody waits for that.
+        let (sum, most) = (crc32c(&[body]), MOST_BUFFERED.min(half / BUFFERS_OF_HALF));
+        let mut tail = self.tail();
+        while !tail.buffer.is_empty() && tail.buffer.len() as u64 + size > most {
+            drop(tail);
+            self.write_out(&mut self.writing.lock().unwrap())?;
+            tail = self.tail();
+        }
+        let lsn = tail.end;
+        if MARK + lsn - tail.start + size > half {
             return Ok(None);
         }
-        let head = [lsn, half.turn, size].map(u64::to_le_bytes);
-        let mut record = [head.as_flattened(), body].concat();
-        let sum = sum_of(&record);
-        record[SUM..HEAD].copy_from_slice(&sum);
-        let place = half.turn % 2 * half_size + at;
-        self.stop_unless(self.device.write_at(&record, place))?;
-        half.end += size;
+        let mut head = [0; HEAD];
+        for (at, number) in [lsn, tail.turn, size].into_iter().enumerate() {
+            head[8 * at..][..8].copy_from_slice(&number.to_le_bytes());
+        }
+        let sum = sum::add(sum, &head[..SUM]);
+        head[SUM..].copy_from_slice(&sum.to_le_bytes());
+        tail.buffer.extend_from_slice(&head);
+        tail.buffer.extend_from_slice(body);
+        tail.end += size;
         Ok(Some(lsn))
+    }
+
+    /// Writes the buffer out, for whoever has the turn. Gives where the records end that are written.
+    fn write_out(&self, spare: &mut Vec<u8>) -> io::Result<u64> {
+        let mut tail = self.tail();
+        mem::swap(&mut tail.buffer, spare);
+        let (end, size) = (tail.end, spare.len() as u64);
+        let place = tail.turn % 2 * (self.fixed[3] / 2) + MARK + end - size - tail.start;
+        drop(tail);
+        if size > 0 {
+            self.stop_unless(self.device.write_at(spare, place))?;
+            spare.clear();
+        }
+        Ok(end)
     }
 
     /// Makes the record with this LSN durable, and all others that there are. One thread does it for
     /// those that come meanwhile: that is group commit.
     pub fn make_durable(&self, lsn: u64) -> io::Result<()> {
-        let _one = self.syncing.lock().unwrap();
-        let Half { end, durable, .. } = self.half();
-        if durable <= lsn {
+        if self.durable() > lsn {
+            return Ok(());
+        }
+        let mut spare = self.writing.lock().unwrap();
+        if self.durable() <= lsn {
             self.is_running()?;
+            let end = self.write_out(&mut spare)?;
             self.stop_unless(self.device.sync())?;
-            let mut half = self.half.lock().unwrap();
-            half.durable = half.durable.max(end);
+            self.durable.fetch_max(end, Ordering::AcqRel);
         }
         Ok(())
     }
@@ -172,21 +248,23 @@ impl Log {
     /// Has records go to the other half from now on, unless redo wants that. The mark is durable
     /// before them, and so is all that was before. Gives where the half begins.
     pub fn turn_over(&self) -> io::Result<u64> {
-        let _one = self.syncing.lock().unwrap();
+        let mut spare = self.writing.lock().unwrap();
         self.is_running()?;
-        let mut half = self.half.lock().unwrap();
-        if half.redo >= half.start {
-            let (turn, start) = (half.turn + 1, half.end);
-            let written = write_mark(&*self.device, self.fixed, [turn, start, half.redo]);
+        self.write_out(&mut spare)?;
+        let mut tail = self.tail();
+        if tail.redo >= tail.start {
+            let (turn, start) = (tail.turn + 1, tail.end);
+            let written = write_mark(&*self.device, self.fixed, [turn, start, tail.redo]);
             self.stop_unless(written)?;
-            (half.turn, half.start, half.durable) = (turn, start, start);
+            (tail.turn, tail.start, tail.marked) = (turn, start, tail.redo);
+            self.durable.fetch_max(start, Ordering::AcqRel);
         }
-        Ok(half.start)
+        Ok(tail.start)
     }
 
     /// Cuts the log: redo wants no record before this LSN any more.
     pub fn cut(&self, redo: u64) {
-        self.half.lock().unwrap().redo = redo;
+        self.tail().redo = redo;
     }
 
     /// Refuses where the store has stopped.
@@ -214,52 +292,23 @@ fn write_mark(device: &dyn Device, fixed: [u64; 4], half: [u64; 3]) -> io::Resul
     device.sync()
 }
 
+/// The good marks of a log, the older first.
+fn marks_of(device: &dyn Device) -> io::Result<Vec<[u64; 7]>> {
+    let (size, mut marks) = (device.size()?, Vec::new());
+    for place in [0, size / 2] {
+        let mut mark = [0; MARK_SUM + 4];
+        if size >= 2 * MARK {
+            device.read_at(&mut mark, place)?;
+        }
+        marks.extend(words_of(&mark));
+    }
+    marks.sort_by_key(|mark| mark[4]);
+    Ok(marks)
+}
+
 /// The numbers of a mark, if it is one.
 fn words_of(mark: &[u8]) -> Option<[u64; 7]> {
     let (words, sum) = mark.split_at(MARK_SUM);
     let is_good = sum == crc32c(&[words]).to_le_bytes();
     is_good.then(|| array::from_fn(|at| word(words, 8 * at)))
-}
-
-fn sum_of(record: &[u8]) -> [u8; 4] {
-    crc32c(&[&record[..SUM], &record[HEAD..]]).to_le_bytes()
-}
-
-/// CRC-32C of these parts, one after the other. It finds each change of up to 32 bits in a row.
-pub fn crc32c(parts: &[&[u8]]) -> u32 {
-    static TABLE: LazyLock<[u32; 256]> = LazyLock::new(|| {
-        let of_bit = |rest: u32, _| (rest >> 1) ^ (0x82f6_3b78 * (rest & 1));
-        array::from_fn(|byte| (0..8).fold(byte as u32, of_bit))
-    });
-    let (table, bytes) = (&*TABLE, parts.iter().copied().flatten());
-    !bytes.fold(!0, |sum, byte| {
-        (sum >> 8) ^ table[usize::from(sum as u8 ^ byte)]
-    })
-}
-
-/// Puts a change of a page behind those that a record has: the number of the page, how many bytes
-/// stay at both ends of its body, and what comes between them. Where nothing stays, it has the whole.
-pub fn add_change(record: &mut Vec<u8>, page: u64, before: &[u8], after: &[u8]) {
-    let is_same = |it: &(&u8, &u8)| it.0 == it.1;
-    let front = before.iter().zip(after).take_while(is_same).count();
-    let (before, after) = (&before[front..], &after[front..]);
-    let ends = before.iter().rev().zip(after.iter().rev());
-    let back = ends.take_while(is_same).count();
-    let between = &after[..after.len() - back];
-    let sizes = [front, back, between.len()].map(|it| (it as u16).to_le_bytes());
-    record.extend([&page.to_le_bytes(), sizes.as_flattened(), between].concat());
-}
-
-/// Makes the changes of a record. None where they are not of the bodies that there are.
-fn redo(mut record: &[u8], lsn: u64, bodies: &mut Bodies) -> Option<()> {
-    while !record.is_empty() {
-        let (head, rest) = record.split_at_checked(14)?;
-        let [front, back, size] = [8, 10, 12].map(|at| half(head, at));
-        let (between, rest) = rest.split_at_checked(size)?;
-        let (body, newest) = bodies.entry(word(head, 0)).or_default();
-        let back = body.len().checked_sub(back)?;
-        *body = [body.get(..front)?, between, &body[back..]].concat();
-        (*newest, record) = (lsn, rest);
-    }
-    Some(())
 }

@@ -4,6 +4,7 @@
 //! length of its body, and since when the log has all of that. The body of a node begins with its
 //! level, 0 for a leaf. In an inner node a value is the page of a child, which has the keys from the
 //! entry's key on. The first key there is 0, as the first child has all keys below the second's.
+use crate::sum::crc32c;
 use std::ops::Range;
 use std::{array, iter};
 
@@ -14,11 +15,10 @@ pub const CONTENT: usize = 12;
 pub const SINCE: usize = 16;
 pub const BODY: usize = 24;
 
-/// The level of a page in the free list, which has the next one behind it.
-pub const FREE: u8 = 255;
-
 /// An entry begins with its key and the length of its value.
 const HEAD: usize = 10;
+/// An entry of an inner node.
+const CHILD: usize = HEAD + 8;
 
 pub fn word(bytes: &[u8], at: usize) -> u64 {
     u64::from_le_bytes(array::from_fn(|byte| bytes[at + byte]))
@@ -33,10 +33,23 @@ pub fn body(page: &[u8]) -> &[u8] {
     &page[BODY..][..half(page, CONTENT)]
 }
 
-/// What a page with this body has behind its stamp.
-pub fn content(since: u64, body: &[u8]) -> Vec<u8> {
-    let length = (body.len() as u32).to_le_bytes();
-    [&length, &since.to_le_bytes()[..], body].concat()
+/// What a page has before its body, from [`CONTENT`] on.
+pub fn head(since: u64, body: &[u8]) -> [u8; BODY - CONTENT] {
+    let mut head = [0; BODY - CONTENT];
+    head[..4].copy_from_slice(&(body.len() as u32).to_le_bytes());
+    head[4..].copy_from_slice(&since.to_le_bytes());
+    head
+}
+
+/// The checksum of a page, which is another one in another's place.
+pub fn sum_of(page: u64, image: &[u8]) -> [u8; 4] {
+    crc32c(&[&page.to_le_bytes(), &image[..SUM], &image[CONTENT..]]).to_le_bytes()
+}
+
+pub fn stamp(page: u64, image: &mut [u8], lsn: u64) {
+    image[LSN..SUM].copy_from_slice(&lsn.to_le_bytes());
+    let sum = sum_of(page, image);
+    image[SUM..CONTENT].copy_from_slice(&sum);
 }
 
 /// The body of a node, which is looked at.
@@ -44,8 +57,13 @@ pub fn content(since: u64, body: &[u8]) -> Vec<u8> {
 pub struct Node<'a>(pub &'a [u8]);
 
 impl<'a> Node<'a> {
+    /// 0 for a leaf. A page without a body is none.
+    pub fn level(self) -> Option<u8> {
+        self.0.first().copied()
+    }
+
     pub fn entries(self) -> impl Iterator<Item = (u64, &'a [u8])> {
-        let mut rest = &self.0[1..];
+        let mut rest = self.0.get(1..).unwrap_or_default();
         iter::from_fn(move || {
             let (head, behind) = rest.split_at_checked(HEAD)?;
             let (value, behind) = behind.split_at_checked(half(head, 8))?;
@@ -69,53 +87,71 @@ impl<'a> Node<'a> {
         self.0.get(place.start + HEAD..place.end)
     }
 
-    /// The first key of the child that has a key, its page, and the first key of the next child.
+    /// The first key of the child that has a key, its page, and the first key of the next child. All
+    /// entries of an inner node are of one size.
     pub fn child(self, key: u64) -> Option<(u64, u64, Option<u64>)> {
-        let (mut entries, mut own) = (self.entries().peekable(), None);
-        while let Some(entry) = entries.next_if(|it| it.0 <= key) {
-            own = Some(entry);
-        }
-        let (first, page) = own?;
-        let page = u64::from_le_bytes(page.try_into().ok()?);
-        Some((first, page, entries.peek().map(|it| it.0)))
+        let (entries, []) = self.0.get(1..)?.as_chunks::<CHILD>() else {
+            return None;
+        };
+        let next = entries.partition_point(|it| word(it, 0) <= key);
+        let own = entries.get(next.checked_sub(1)?)?;
+        let first_of_next = entries.get(next).map(|it| word(it, 0));
+        Some((word(own, 0), word(own, HEAD), first_of_next))
+    }
+
+    /// The first key of the upper half, by bytes. Each half is smaller than a page, as an entry has 266
+    /// bytes at most and a page 1,024 or more.
+    pub fn middle(self) -> u64 {
+        let mut end = 1;
+        let mut entries = self.entries();
+        let is_beyond = |(_, value): &(u64, &[u8])| {
+            end += HEAD + value.len();
+            end > self.0.len() / 2
+        };
+        entries.find(is_beyond).map_or(0, |it| it.0)
     }
 }
 
-/// Puts a value in the place of a key's, or takes the key out.
-pub fn set(body: &mut Vec<u8>, key: u64, value: Option<&[u8]>) {
-    let entry = value.map(|value| {
-        let length = (value.len() as u16).to_le_bytes();
-        [&key.to_le_bytes(), &length[..], value].concat()
-    });
-    let place = Node(body).place(key);
-    body.splice(place, entry.unwrap_or_default());
+/// Puts a value in the place of a key's.
+pub fn set(body: &mut Vec<u8>, key: u64, value: &[u8]) {
+    let (place, size) = (Node(body).place(key), body.len());
+    let end = place.start + HEAD + value.len();
+    body.resize(size.max(size + end - place.end), 0);
+    body.copy_within(place.end..size, end);
+    body.truncate(size + end - place.end);
+    let entry = &mut body[place.start..end];
+    entry[..8].copy_from_slice(&key.to_le_bytes());
+    entry[8..HEAD].copy_from_slice(&(value.len() as u16).to_le_bytes());
+    entry[HEAD..].copy_from_slice(value);
 }
 
-/// Takes the child out that has a key. The next one has its keys from then on, or the one before.
-pub fn remove_child(body: &mut Vec<u8>, key: u64) {
-    if let Some((first, _, next)) = Node(body).child(key) {
-        let heir = next.and_then(|next| Some(Node(body).get(next)?.to_vec()));
-        set(body, next.unwrap_or(first), None);
-        set(body, first, heir.as_deref());
-    }
+/// How many bytes an entry has with this value.
+pub fn size_of(value: &[u8]) -> usize {
+    HEAD + value.len()
 }
 
-/// Takes the upper half of a node out, by bytes, and gives its first key and its body. Each half is
-/// smaller than a page, as an entry has 266 bytes at most and a page 1,024 or more.
-pub fn split(body: &mut Vec<u8>) -> (u64, Vec<u8>) {
-    let mut middle = 1;
-    for (_, value) in Node(body).entries() {
-        let end = middle + HEAD + value.len();
-        if end > body.len() / 2 {
-            break;
-        }
-        middle = end;
-    }
-    let mut upper = body.split_off(middle);
-    let first = word(&upper, 0);
+/// Adds an entry behind all others.
+pub fn push(body: &mut Vec<u8>, key: u64, value: &[u8]) {
+    body.extend_from_slice(&key.to_le_bytes());
+    body.extend_from_slice(&(value.len() as u16).to_le_bytes());
+    body.extend_from_slice(value);
+}
+
+/// Takes a key out.
+pub fn delete(body: &mut Vec<u8>, key: u64) {
+    body.drain(Node(body).place(key));
+}
+
+/// Drops the entries from a key on.
+pub fn cut(body: &mut Vec<u8>, key: u64) {
+    body.truncate(Node(body).place(key).start);
+}
+
+/// Adds the entries from a key on to the body of a node of the same level.
+pub fn add_upper(body: &[u8], key: u64, upper: &mut Vec<u8>) {
+    upper.push(body[0]);
+    upper.extend_from_slice(&body[Node(body).place(key).start..]);
     if body[0] > 0 {
-        upper[..8].fill(0);
+        upper[1..9].fill(0);
     }
-    upper.insert(0, body[0]);
-    (first, upper)
 }

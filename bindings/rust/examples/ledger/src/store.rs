@@ -1,36 +1,30 @@
-//! `Store`: the page file and the log under one pager; opening, look-ups and checkpoints.
+//! `Store`: the page file and the log under one pager; opening, redo and checkpoints.
 use crate::device::Device;
-use crate::edit::{Edit, ROOT, Tree};
-use crate::log::{Log, crc32c};
-use crate::node::{self, BODY, CONTENT, LSN, Node, SUM, word};
+use crate::log::Log;
+use crate::node::{self, BODY, CONTENT, LSN, SUM, word};
+use crate::record::{Change, pages_of_map};
+use crate::space::Space;
+use crate::tree::ROOT;
 use crate::{Error, Result, bad};
-use hojzmated::{PageIo, PagerError, ReadFault, SharedConfig, SharedPager, Stats};
+use hojzmated::{Cleaner, PageIo, PagerError, ReadFault, SharedConfig, SharedPager, Stats};
+use std::collections::{BTreeMap, BTreeSet};
 use std::hash::{BuildHasher, RandomState};
 use std::io;
-use std::sync::{Mutex, RwLock};
+use std::mem;
+use std::sync::{Arc, Mutex, RwLock};
+use std::time::Duration;
 
 /// The page file and the log, as the pager uses them.
-pub(crate) struct Files {
+pub struct Files {
     pages: Box<dyn Device>,
     log: Log,
-}
-
-/// The checksum of a page, which is another one in another's place.
-fn sum_of(page: u64, image: &[u8]) -> [u8; 4] {
-    crc32c(&[&page.to_le_bytes(), &image[..SUM], &image[CONTENT..]]).to_le_bytes()
-}
-
-fn stamp(page: u64, image: &mut [u8], lsn: u64) {
-    image[LSN..SUM].copy_from_slice(&lsn.to_le_bytes());
-    let sum = sum_of(page, image);
-    image[SUM..CONTENT].copy_from_slice(&sum);
 }
 
 impl PageIo for Files {
     fn read_page(&self, page: u64, image: &mut [u8]) -> Result<(), ReadFault> {
         self.pages.read_at(image, page * image.len() as u64)?;
-        let (lsn, end) = (word(image, LSN), self.log.half().durable);
-        let why = if image[SUM..CONTENT] != sum_of(page, image) {
+        let (lsn, end) = (word(image, LSN), self.log.durable());
+        let why = if image[SUM..CONTENT] != node::sum_of(page, image) {
             "the checksum is wrong, and the log has no image of it".into()
         } else if lsn >= end {
             format!("its LSN is {lsn}, and the log ends at {end}")
@@ -42,7 +36,7 @@ impl PageIo for Files {
 
     // RULES, log before page: the page LSN is stamped into the image as it goes out.
     fn write_page(&self, page: u64, image: &mut [u8], lsn: u64) -> io::Result<()> {
-        stamp(page, image, lsn);
+        node::stamp(page, image, lsn);
         self.pages.write_at(image, page * image.len() as u64)
     }
 
@@ -57,9 +51,11 @@ impl PageIo for Files {
 
 /// A B+tree of u64 keys and values of up to 256 bytes, in pages under a log.
 pub struct Store {
-    pub(crate) pager: SharedPager<Files>,
-    /// Who looks at the tree has this shared, and who changes it alone.
-    pub(crate) tree: RwLock<Tree>,
+    pub(crate) pager: Arc<SharedPager<Files>>,
+    /// Who commits has it shared from before its record to its last put. A checkpoint has it alone for
+    /// as long as it notes where the next record begins.
+    pub(crate) gate: RwLock<()>,
+    pub(crate) space: Mutex<Space>,
     checkpoint: Mutex<()>,
 }
 
@@ -75,20 +71,28 @@ impl Store {
         }
         // RULES, new pages: the page file is made whole at first.
         pages.fill(count * page_size)?;
-        let tree = Tree {
-            store: RandomState::new().hash_one(page_size),
-            free: 0,
-            end: 2,
-        };
-        for (page, body) in [(0, tree.encode()), (ROOT, vec![0])] {
+        let (store, of_map) = (
+            RandomState::new().hash_one(page_size),
+            pages_of_map(page_size as usize),
+        );
+        for page in (0..count).step_by(of_map as usize).chain([ROOT]) {
+            let mut body = vec![0];
+            if page != ROOT {
+                body = vec![0; page_size as usize - BODY];
+                body[..8].copy_from_slice(&store.to_le_bytes());
+                Change::Use(0).make(&mut body);
+            }
+            if page == 0 {
+                Change::Use(ROOT).make(&mut body);
+            }
             let mut image = vec![0; page_size as usize];
-            let content = node::content(0, &body);
-            image[CONTENT..][..content.len()].copy_from_slice(&content);
-            stamp(page, &mut image, 0);
+            image[CONTENT..BODY].copy_from_slice(&node::head(0, &body));
+            image[BODY..][..body.len()].copy_from_slice(&body);
+            node::stamp(page, &mut image, 0);
             pages.write_at(&image, page * page_size)?;
         }
         pages.sync()?;
-        Log::create(log, [tree.store, count, page_size, log_size])
+        Log::create(log, [store, count, page_size, log_size])
     }
 
     /// Opens a store: what the log has is redone, wherever the last run ended. The last argument
@@ -104,8 +108,7 @@ impl Store {
         log: Box<dyn Device>,
         settings: impl FnOnce(u64, usize) -> SharedConfig,
     ) -> Result<(Store, bool)> {
-        // A page begins with its whole body in the log, and is not read: it may be torn.
-        let (log, bodies, is_torn) = Log::open(log)?;
+        let (log, is_torn) = Log::open(log)?;
         let [store, count, page_size, _] = log.fixed;
         let (size, wanted) = (pages.size()?, count * page_size);
         if size != wanted {
@@ -122,20 +125,15 @@ impl Store {
         let config = settings(count, page_size as usize);
         let pager = SharedPager::new(&config, Files { pages, log })?;
         // RULES, log before page: after a start the mark is raised to the last durable record.
-        pager.mark(pager.io().log.half().end - 1);
-        for (page, (body, lsn)) in bodies {
-            // RULES, new pages: a page that is not read is written to at once. All go out anew: after
-            // a sync that failed, a page may be in the memory of the system alone.
-            let mut page = pager.new_page(page)?;
-            page.put(CONTENT, &node::content(0, &body), lsn)?;
-        }
+        pager.mark(pager.io().log.end() - 1);
+        redo(&pager)?;
         pager.checkpoint()?;
         pager.io().log.turn_over()?;
-        let tree = Tree::decode(node::body(&pager.read(0)?));
         let store = Store {
-            pager,
-            tree: RwLock::new(tree),
-            checkpoint: Mutex::new(()),
+            space: Mutex::new(Space::new(&pager)?),
+            pager: Arc::new(pager),
+            gate: RwLock::default(),
+            checkpoint: Mutex::default(),
         };
         Ok((store, is_torn))
     }
@@ -149,58 +147,87 @@ impl Store {
         self.pager.stats()
     }
 
+    /// Starts a thread that writes out pages which have to make way next, until what this gives is
+    /// dropped: so fewer threads wait for a write, or for the log.
+    pub fn start_cleaner(&self, most: usize, rest: Duration) -> Result<Cleaner> {
+        Ok(self.pager.start_cleaner(most, rest)?)
+    }
+
     /// Whether the store has not stopped. It stops where a device failed so that only redo can tell
     /// what was kept: open it anew.
     pub fn is_running(&self) -> bool {
         self.log().is_running().is_ok()
     }
 
-    /// The value of a key. It may be of a transaction that is not kept yet.
-    pub fn get(&self, key: u64) -> Result<Option<Vec<u8>>> {
-        let tree = self.tree.read().unwrap();
-        Edit::new(self, &tree).get(key)
-    }
-
-    /// The entries from a key on, so many at most. What a leaf has is of one moment, and other
-    /// leaves may change meanwhile.
-    pub fn scan(&self, from: u64, most: usize) -> Result<Vec<(u64, Vec<u8>)>> {
-        let (mut found, mut from) = (Vec::new(), Some(from));
-        while let Some(key) = from.filter(|_| found.len() < most) {
-            let tree = self.tree.read().unwrap();
-            let (_, leaf, next) = Edit::new(self, &tree).path(key)?;
-            let entries = Node(&leaf).entries().filter(|it| it.0 >= key);
-            let owned = entries.map(|(key, value)| (key, value.to_vec()));
-            found.extend(owned.take(most - found.len()));
-            from = next;
-        }
-        Ok(found)
-    }
-
     /// Returns once the transaction with this LSN, and those before it, are kept.
     pub fn make_durable(&self, lsn: u64) -> Result<()> {
         self.log().make_durable(lsn)?;
         // RULES, log before page: the mark is raised after the sync, and never before.
-        self.pager.mark(lsn);
+        self.pager.mark(self.log().durable() - 1);
         Ok(())
+    }
+
+    /// Ends the pool where a sync failed: nobody knows what the device has then.
+    pub(crate) fn stop_unless_synced<T>(&self, done: Result<T, PagerError>) -> Result<T> {
+        Ok(match done {
+            failed @ Err(PagerError::Sync { .. }) => self.log().stop_unless(failed)?,
+            done => done?,
+        })
     }
 
     /// Writes out what is dirty and cuts the log. Others go on meanwhile.
     pub fn checkpoint(&self) -> Result<()> {
+        self.checkpoint_if(|_| true)
+    }
+
+    /// The same, if records still go into the half that begins here: that has no room for one.
+    pub(crate) fn make_room(&self, start: u64) -> Result<()> {
+        self.checkpoint_if(|now| now == start)
+    }
+
+    fn checkpoint_if(&self, is_wanted: impl Fn(u64) -> bool) -> Result<()> {
         let _one = self.checkpoint.lock().unwrap();
-        // RULES, a checkpoint: 1, the log's end, while no thread is between a record and its write.
+        if !is_wanted(self.log().start()) {
+            return Ok(());
+        }
+        // RULES, a checkpoint: 1, the log's end, while no thread is between a record and its puts.
         // That is where the new half begins, which is so the redo point that is written down.
         let start = {
-            let _alone = self.tree.write().unwrap();
+            let _alone = self.gate.write().unwrap();
             self.log().turn_over()?
         };
         // 2, and by the pager 3, 4 and 5. A failed sync ends the pool.
         self.make_durable(start - 1)?;
-        let redo = match self.pager.checkpoint() {
-            failed @ Err(PagerError::Sync { .. }) => self.log().stop_unless(failed)?,
-            done => done?,
-        };
+        let redo = self.stop_unless_synced(self.pager.checkpoint())?;
         // 6 and 7: from the lesser of 1 and 4 on the log is kept.
         self.log().cut(redo.map_or(start, |lsn| lsn.min(start)));
+        self.reclaim();
         Ok(())
     }
+}
+
+/// Makes the changes that the log has, through the pager. A page begins with its whole body there, and
+/// is not read before: it may be torn. All of them go out anew: after a sync that failed, a page may be in
+/// the memory of the system alone.
+fn redo(pager: &SharedPager<Files>) -> Result<()> {
+    let (mut begun, mut bodies) = (BTreeSet::new(), BTreeMap::new());
+    pager.io().log.redo(|lsn, mut record| {
+        while !record.is_empty() {
+            let Some((page, change)) = Change::take(&mut record) else {
+                return bad(format!("the log's record {lsn} is no list of changes"));
+            };
+            if !begun.insert(page) && !bodies.contains_key(&page) {
+                bodies.insert(page, node::body(&pager.read(page)?).to_vec());
+            }
+            if change.make(bodies.entry(page).or_default()).is_none() {
+                return bad(format!("the log's record {lsn} is not of page {page}"));
+            }
+        }
+        for (page, body) in mem::take(&mut bodies) {
+            // RULES, new pages: one that is not read is written to at once.
+            let parts = [(CONTENT, &node::head(0, &body)[..]), (BODY, &body)];
+            pager.new_page(page)?.put_each(&parts, lsn)?;
+        }
+        Ok(())
+    })
 }

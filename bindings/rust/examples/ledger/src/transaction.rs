@@ -1,26 +1,49 @@
 //! `Transaction`: steps that are committed all or not at all.
-use crate::edit::Edit;
+use crate::mini::{self, Mini, Stop};
 use crate::{Error, MOST_VALUE, Result, Store};
-use std::collections::BTreeMap;
+use std::cell::Cell;
+use std::ops::Range;
+
+/// What a transaction knows of a key: what it has read, and what it will write. Values stand among its
+/// bytes; there is none where the key is not there.
+pub struct Entry {
+    pub key: u64,
+    seen: Option<Option<Range<usize>>>,
+    change: Option<Option<Range<usize>>>,
+}
+
+/// The memory of a transaction.
+#[derive(Default)]
+struct Memory {
+    /// In the order of their keys.
+    entries: Vec<Entry>,
+    bytes: Vec<u8>,
+    of_mini: mini::Memory,
+}
+
+thread_local! {
+    /// The memory of this thread for its next transaction.
+    static KEPT: Cell<Memory> = Cell::default();
+}
 
 /// Steps that are kept all or not at all.
 ///
 /// What is put is seen by this transaction alone until [`commit`](Transaction::commit). Where it is
 /// dropped before, nothing of it was ever in the log or in a page: that is rollback. A commit looks
-/// whether all that was read is still so: transactions that commit are as if they ran one by one.
+/// whether all that was read is still so, while it has the latches of the leaves: transactions that
+/// commit are as if they ran one by one.
 pub struct Transaction<'a> {
     store: &'a Store,
-    seen: BTreeMap<u64, Option<Vec<u8>>>,
-    changes: BTreeMap<u64, Option<Vec<u8>>>,
+    memory: Memory,
 }
 
 impl Store {
     /// Begins a transaction.
     pub fn begin(&self) -> Transaction<'_> {
+        let memory = KEPT.take();
         Transaction {
             store: self,
-            seen: BTreeMap::new(),
-            changes: BTreeMap::new(),
+            memory,
         }
     }
 
@@ -38,15 +61,42 @@ impl Store {
     }
 }
 
+impl Memory {
+    /// The entry of a key.
+    fn entry(&mut self, key: u64) -> &mut Entry {
+        let found = self.entries.binary_search_by_key(&key, |it| it.key);
+        let place = found.unwrap_or_else(|place| {
+            let (seen, change) = (None, None);
+            self.entries.insert(place, Entry { key, seen, change });
+            place
+        });
+        &mut self.entries[place]
+    }
+
+    fn keep(&mut self, value: &[u8]) -> Range<usize> {
+        let start = self.bytes.len();
+        self.bytes.extend_from_slice(value);
+        start..self.bytes.len()
+    }
+}
+
 impl Transaction<'_> {
     /// The value of a key.
-    pub fn get(&mut self, key: u64) -> Result<Option<Vec<u8>>> {
-        if let Some(known) = self.changes.get(&key).or_else(|| self.seen.get(&key)) {
-            return Ok(known.clone());
-        }
-        let value = self.store.get(key)?;
-        self.seen.insert(key, value.clone());
-        Ok(value)
+    pub fn get(&mut self, key: u64) -> Result<Option<&[u8]>> {
+        let Entry { seen, change, .. } = self.memory.entry(key);
+        let known = change.as_ref().or(seen.as_ref()).cloned();
+        let value = match known {
+            Some(known) => known,
+            None => {
+                let memory = &mut self.memory;
+                let value = self
+                    .store
+                    .look(key, |value| value.map(|it| memory.keep(it)))?;
+                self.memory.entry(key).seen = Some(value.clone());
+                value
+            }
+        };
+        Ok(value.map(|it| &self.memory.bytes[it]))
     }
 
     /// Puts a value in the place of a key's.
@@ -54,39 +104,69 @@ impl Transaction<'_> {
         if value.len() > MOST_VALUE {
             return Err(Error::NoRoom("the value is longer than 256 bytes"));
         }
-        self.changes.insert(key, Some(value.to_vec()));
+        let value = self.memory.keep(value);
+        self.memory.entry(key).change = Some(Some(value));
         Ok(())
     }
 
     /// Takes a key out.
     pub fn delete(&mut self, key: u64) {
-        self.changes.insert(key, None);
+        self.memory.entry(key).change = Some(None);
     }
 
     /// Makes the changes, for all to see, and gives their LSN. They are kept for sure once
     /// [`Store::make_durable`] returns for that: so several may wait for one sync.
-    pub fn commit(self) -> Result<u64> {
+    ///
+    /// # Errors
+    /// [`Error::Conflict`] where another transaction changed what this one has read;
+    /// [`Error::NoRoom`]; [`Error::Pager`] and [`Error::Device`]. Nothing was changed then, but where the
+    /// log failed: then the store has stopped.
+    pub fn commit(mut self) -> Result<u64> {
+        let mut height = 0;
         loop {
-            // RULES, order of access: to read and then write as one step takes the tree alone, so no
-            // two threads want latches of each other.
-            let mut tree = self.store.tree.write().unwrap();
-            let mut edit = Edit::new(self.store, &tree);
-            for (key, seen) in &self.seen {
-                if edit.get(*key)? != *seen {
-                    return Err(Error::Conflict);
-                }
+            match self.attempt(height) {
+                Ok(lsn) => return Ok(lsn),
+                Err(Stop::Full(start)) => self.store.make_room(start)?,
+                Err(Stop::Above) => height += 1,
+                Err(Stop::Failed(error)) => return Err(error),
             }
-            for (key, value) in &self.changes {
-                match value {
-                    Some(value) => edit.put(*key, value)?,
-                    None => edit.delete(*key)?,
-                }
-            }
-            if let Some(lsn) = edit.publish(&mut tree)? {
-                return Ok(lsn);
-            }
-            drop(tree);
-            self.store.checkpoint()?;
         }
+    }
+
+    /// Commits with exclusive latches of the nodes up to this level.
+    fn attempt(&mut self, height: u8) -> Result<u64, Stop> {
+        let Memory {
+            entries,
+            bytes,
+            of_mini,
+        } = &mut self.memory;
+        let mut mini = Mini::new(self.store, of_mini, height);
+        mini.latch(entries)?;
+        for entry in entries.iter() {
+            let seen = entry.seen.clone().map(|it| it.map(|it| &bytes[it]));
+            if seen.is_some_and(|seen| seen != mini.get(entry.key)) {
+                return Err(Error::Conflict.into());
+            }
+        }
+        mini.pass_gate();
+        for entry in entries.iter() {
+            match &entry.change {
+                Some(Some(value)) => mini.put(entry.key, &bytes[value.clone()])?,
+                Some(None) => mini.delete(entry.key),
+                None => {}
+            }
+        }
+        mini.prune()?;
+        mini.publish()
+    }
+}
+
+impl Drop for Transaction<'_> {
+    fn drop(&mut self) {
+        let mut memory = std::mem::take(&mut self.memory);
+        memory.entries.clear();
+        memory.bytes.clear();
+        // Once the thread's own objects are gone, the memory is, too.
+        let _ = KEPT.try_with(|kept| kept.set(memory));
     }
 }

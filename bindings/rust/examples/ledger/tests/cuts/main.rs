@@ -4,12 +4,15 @@
 //!     cuts all SEED RUNS          of each run each request is cut, and each of its kind fails
 //!     cuts threads SEED RUNS      the power is cut while four threads work
 //!     cuts one SEED KIND NUMBER   one of them again: KIND is cut, kill, read, write or sync
+#[path = "../bank/bank.rs"]
+mod bank;
 mod disk;
+mod loads;
 mod run;
 mod threads;
 
-use disk::Fault;
-use ledger::bank::Random;
+use bank::Random;
+use hojzmated_disk::Fault;
 use std::panic::{UnwindSafe, catch_unwind};
 use std::process::{self, ExitCode};
 use std::sync::mpsc::{RecvTimeoutError, Sender, channel};
@@ -32,7 +35,9 @@ impl Tally {
     }
 
     fn try_one(&mut self, seed: u64, fault: Option<Fault>) -> run::Asked {
-        self.tried(&format!("seed {seed}, {fault:?}"), || run::run(seed, fault))
+        // Each fourth run loads and clears.
+        let run = if seed % 4 == 3 { loads::run } else { run::run };
+        self.tried(&format!("seed {seed}, {fault:?}"), || run(seed, fault))
     }
 
     fn tried<T: Default>(

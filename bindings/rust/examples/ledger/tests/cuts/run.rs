@@ -1,14 +1,15 @@
 //! One run: a few lives of a store on one disk, and what has to be there after each.
-use crate::disk::{Counts, Disk, Fault};
+use crate::bank::Random;
+use crate::disk::device;
 use hojzmated::SharedConfig;
-use ledger::bank::Random;
+use hojzmated_disk::{Counts, Disk, Fault};
 use ledger::{Error, Store};
 use std::collections::BTreeMap;
 use std::ops::Range;
 
 type Map = BTreeMap<u64, Vec<u8>>;
 type Changes = Vec<(u64, Option<Vec<u8>>)>;
-type Outcome<T = ()> = Result<T, String>;
+pub type Outcome<T = ()> = Result<T, String>;
 
 /// The key in which each transaction counts.
 const STEPS: u64 = u64::MAX;
@@ -110,8 +111,9 @@ pub fn run(seed: u64, fault: Option<Fault>) -> Outcome<Asked> {
     );
     let disk = Disk::new(seed ^ 0x5eed);
     let sizes = [pages, page_size, log_size];
-    Store::create(&*disk.pages(), &*disk.log(), sizes).map_err(|why| why.to_string())?;
-    disk.is_to_fail(fault);
+    Store::create(&*device(&disk, "pages"), &*device(&disk, "log"), sizes)
+        .map_err(|why| why.to_string())?;
+    disk.set_fault(fault);
     let mut run = Run {
         disk,
         random,
@@ -125,7 +127,7 @@ pub fn run(seed: u64, fault: Option<Fault>) -> Outcome<Asked> {
         run.deletes = if life == 1 { 7 } else { 2 };
         run.life(60)?;
         match run.random.below(3) {
-            _ if run.disk.is_off() => run.disk.comes_back(),
+            _ if run.disk.is_off() => run.disk.come_back(),
             0 => run.disk.restart(),
             _ => run.disk.lose_power(),
         }
@@ -134,7 +136,7 @@ pub fn run(seed: u64, fault: Option<Fault>) -> Outcome<Asked> {
     if fault.is_some() && run.disk.failures() == 0 {
         return Err("the fault did not come".into());
     }
-    run.disk.is_to_fail(None);
+    run.disk.set_fault(None);
     run.life(5)?;
     run.disk.lose_power();
     run.life(0)?;
@@ -172,7 +174,11 @@ impl Run {
                 parts: if frames < 64 { 1 } else { 2 },
                 ..SharedConfig::new(pages, page_size, frames)
             };
-            let opened = Store::open(self.disk.pages(), self.disk.log(), config);
+            let opened = Store::open(
+                device(&self.disk, "pages"),
+                device(&self.disk, "log"),
+                config,
+            );
             self.starts.push(from..self.disk.counts().all + 1);
             let done: Outcome = match opened {
                 Ok((store, _)) => match self.model.compare(&store) {
@@ -184,7 +190,7 @@ impl Run {
             let is_excused = self.disk.failures() > failures;
             match done {
                 Err(why) if !is_excused => return Err(format!("at a start: {why}")),
-                _ if self.disk.is_off() => self.disk.comes_back(),
+                _ if self.disk.is_off() => self.disk.come_back(),
                 _ => {}
             }
         }
@@ -231,8 +237,8 @@ impl Run {
         let mut transaction = store.begin();
         for (key, value) in &changes {
             if self.random.below(3) == 0 {
-                let before = transaction.get(*key)?;
-                let had = transaction.get(*key)?;
+                let before = transaction.get(*key)?.map(<[u8]>::to_vec);
+                let had = transaction.get(*key)?.map(<[u8]>::to_vec);
                 same(before.as_ref(), had.as_ref())?;
             }
             match value {

@@ -1,7 +1,8 @@
 //! The power fails while four threads move amounts, and one makes checkpoints.
-use crate::disk::{Disk, Fault};
+use crate::bank::{self, Client, Random};
+use crate::disk::device;
 use hojzmated::SharedConfig;
-use ledger::bank::{self, Client, Random};
+use hojzmated_disk::{Disk, Fault};
 use ledger::{Error, Store};
 use std::sync::atomic::{AtomicBool, AtomicU64, Ordering};
 use std::thread;
@@ -16,13 +17,18 @@ type Acks = [AtomicU64; THREADS];
 /// Cuts the power twice. What the threads did until then is another thing each time.
 pub fn run(seed: u64) -> Result<(), String> {
     let (disk, mut random) = (Disk::new(seed), Random(seed));
-    Store::create(&*disk.pages(), &*disk.log(), [500, 1024, 100_000]).map_err(told)?;
+    Store::create(
+        &*device(&disk, "pages"),
+        &*device(&disk, "log"),
+        [500, 1024, 100_000],
+    )
+    .map_err(told)?;
     bank::load(&opened(&disk)?, ACCOUNTS).map_err(told)?;
-    disk.is_slow();
+    disk.slow_syncs(Duration::from_micros(150));
     let acks = Acks::default();
     for _ in 0..2 {
         let store = opened(&disk)?;
-        disk.is_to_fail(Some(Fault::Cut(1 + random.below(600))));
+        disk.set_fault(Some(Fault::Cut(1 + random.below(600))));
         work(&store, &disk, &acks, random.below(1 << 40))?;
         drop(store);
         if random.below(4) > 0 {
@@ -30,7 +36,7 @@ pub fn run(seed: u64) -> Result<(), String> {
         } else {
             disk.restart();
         }
-        disk.is_to_fail(None);
+        disk.set_fault(None);
         let store = opened(&disk)?;
         store.verify().map_err(told)?;
         let known = acks
@@ -46,7 +52,7 @@ fn told(why: ledger::Error) -> String {
 }
 
 fn opened(disk: &Disk) -> Result<Store, String> {
-    let opened = Store::open(disk.pages(), disk.log(), |pages, size| {
+    let opened = Store::open(device(disk, "pages"), device(disk, "log"), |pages, size| {
         SharedConfig::new(pages, size, 64)
     });
     opened.map(|it| it.0).map_err(told)
@@ -70,6 +76,7 @@ fn work(store: &Store, disk: &Disk, acks: &Acks, seed: u64) -> Result<(), String
                     number: number as u64,
                     accounts: ACCOUNTS,
                     opens: 30,
+                    waits: number > 0,
                     random: Random(seed + number as u64),
                 };
                 scope.spawn(move || or_off(transfer(client, ack)))
@@ -92,7 +99,10 @@ fn work(store: &Store, disk: &Disk, acks: &Acks, seed: u64) -> Result<(), String
 /// Makes transactions until something fails. Others are rolled back, and are never seen by scans.
 fn transfer(mut client: Client, ack: &AtomicU64) -> ledger::Result<()> {
     loop {
-        ack.store(client.step()?, Ordering::Relaxed);
+        let count = client.step()?;
+        if client.waits {
+            ack.store(count, Ordering::Relaxed);
+        }
         let (from, mut dropped) = (client.random.below(16 * ACCOUNTS), client.store.begin());
         dropped.put(from, b"never")?;
         let found = client.store.scan(from, 20)?;

@@ -2,8 +2,7 @@
 //!
 //! A value begins with four numbers. The first three of all keys are 0 in sum, and each transaction
 //! keeps that: so it shows whether one was lost, made in part, or made twice.
-use crate::node::word;
-use crate::{Result, Store, Transaction, bad};
+use ledger::{Error, MOST_VALUE, Result, Store, Transaction};
 use std::array;
 
 /// Accounts have the keys 0, 16, 32 and so on; between them are those that clients open and close.
@@ -12,8 +11,6 @@ const APART: u64 = 16;
 const COUNTERS: u64 = 1 << 63;
 /// The key that makes up for the accounts that were loaded. It is put last.
 const LOADED: u64 = u64::MAX;
-/// How many clients there may be.
-pub const CLIENTS: u64 = 14;
 
 /// Of an account: its balance, how often it changed, 1, and 0. Of a client's counter: what makes up
 /// for these, and how many transactions the client made.
@@ -37,18 +34,31 @@ fn mixed(mut word: u64) -> u64 {
     word ^ word >> 31
 }
 
-/// The value is of another length after each change. What fills it tells the key.
-fn encode(key: u64, row: Row) -> Vec<u8> {
-    let mut value = row.map(i64::to_le_bytes).as_flattened().to_vec();
+/// Puts the value into the room and gives it. It is of another length after each change. What fills it
+/// tells the key.
+fn encode(key: u64, row: Row, room: &mut [u8; MOST_VALUE]) -> &[u8] {
+    let (numbers, rest) = room.split_at_mut(32);
+    numbers.copy_from_slice(row.map(i64::to_le_bytes).as_flattened());
     let seed = mixed(key ^ mixed(row[1] as u64));
-    value.extend((0..seed % 225).map(|at| (seed >> (at % 57)) as u8));
-    value
+    let size = (seed % 225) as usize;
+    for (at, byte) in rest[..size].iter_mut().enumerate() {
+        *byte = (seed >> (at % 57)) as u8;
+    }
+    &room[..32 + size]
+}
+
+fn number(bytes: &[u8], at: usize) -> i64 {
+    i64::from_le_bytes(array::from_fn(|byte| bytes[at + byte]))
+}
+
+fn bad<T>(why: impl Into<String>) -> Result<T> {
+    Err(Error::BadStore(why.into()))
 }
 
 fn decode(key: u64, value: &[u8]) -> Result<Row> {
     let numbers = value.get(..32).unwrap_or(&[0; 32]);
-    let row = array::from_fn(|at| word(numbers, 8 * at) as i64);
-    match encode(key, row) == value {
+    let row = array::from_fn(|at| number(numbers, 8 * at));
+    match encode(key, row, &mut [0; MOST_VALUE]) == value {
         true => Ok(row),
         false => bad(format!("the value of key {key} is wrong")),
     }
@@ -56,25 +66,23 @@ fn decode(key: u64, value: &[u8]) -> Result<Row> {
 
 fn row_of(it: &mut Transaction, key: u64) -> Result<Option<Row>> {
     let value = it.get(key)?;
-    value.map(|value| decode(key, &value)).transpose()
+    value.map(|value| decode(key, value)).transpose()
 }
 
 /// Adds to the numbers of a key. Gives the last one.
 fn add(it: &mut Transaction, key: u64, by: Row) -> Result<u64> {
     let row = row_of(it, key)?.unwrap_or_default();
     let sums = array::from_fn(|at| row[at] + by[at]);
-    it.put(key, &encode(key, sums))?;
+    it.put(key, encode(key, sums, &mut [0; MOST_VALUE]))?;
     Ok(sums[3] as u64)
 }
 
 /// Puts accounts into an empty store.
 pub fn load(store: &Store, accounts: u64) -> Result<()> {
-    for at in 0..accounts {
-        store.transact(|it| add(it, at * APART, [1_000, 0, 1, 0]))?;
-    }
     let count = accounts as i64;
-    let (_, last) = store.transact(|it| add(it, LOADED, [-1_000 * count, 0, -count, 0]))?;
-    store.make_durable(last)
+    let rows = (0..accounts).map(|at| (at * APART, [1_000, 0, 1, 0]));
+    let all = rows.chain([(LOADED, [-1_000 * count, 0, -count, 0])]);
+    store.load(all.map(|(key, row)| (key, encode(key, row, &mut [0; MOST_VALUE]).to_vec())))
 }
 
 /// How many accounts were loaded.
@@ -89,18 +97,20 @@ pub fn accounts(store: &Store) -> Result<u64> {
 pub struct Client<'a> {
     /// Where the accounts are.
     pub store: &'a Store,
-    /// Which of [`CLIENTS`] it is.
+    /// Which client it is, from 0 on: less than 14.
     pub number: u64,
     /// How many accounts were loaded.
     pub accounts: u64,
     /// Of 100 transactions so many open or close an account.
     pub opens: u64,
+    /// Whether it waits until each transaction is kept.
+    pub waits: bool,
     /// What it does by chance.
     pub random: Random,
 }
 
 impl Client<'_> {
-    /// Makes a transaction. It is kept then, and this gives how many the client made.
+    /// Makes a transaction. Gives how many the client made, all of which are kept if it waits for that.
     pub fn step(&mut self) -> Result<u64> {
         let (from, to) = (self.account(), self.account());
         let (amount, odds) = (self.random.below(100) as i64, self.random.below(100));
@@ -108,12 +118,14 @@ impl Client<'_> {
             true => self.open_or_close(it, from, amount),
             false => self.transfer(it, from, to, amount),
         })?;
-        self.store.make_durable(lsn)?;
+        if self.waits {
+            self.store.make_durable(lsn)?;
+        }
         Ok(count)
     }
 
-    /// Skewed: nearly a third of all are below a hundredth of the accounts.
-    fn account(&mut self) -> u64 {
+    /// The key of an account. Skewed: nearly a third of all are below a hundredth of the accounts.
+    pub fn account(&mut self) -> u64 {
         let part = self.random.below(1 << 20) as f64 / (1 << 20) as f64;
         (part.powi(4) * self.accounts as f64) as u64 * APART
     }
@@ -154,7 +166,7 @@ pub fn check(store: &Store, acknowledged: &[u8]) -> Result<(i64, i64)> {
     }
     let (mut it, mut all) = (store.begin(), 0);
     for (client, known) in (0..).zip(acknowledged.chunks_exact(8)) {
-        let known = word(known, 0) as i64;
+        let known = number(known, 0);
         let [.., made] = row_of(&mut it, COUNTERS + client)?.unwrap_or_default();
         if made < known {
             let why = format!("client {client}: {made} kept of {known} acknowledged");

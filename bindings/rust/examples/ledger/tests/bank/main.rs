@@ -1,9 +1,12 @@
 //! A ledger in a folder: `load` makes one, `run` moves amounts, `check` looks at all of it.
+mod bank;
+
+use bank::{Client, Random};
 use hojzmated::SharedConfig;
-use ledger::bank::{self, CLIENTS, Client, Random};
 use ledger::{DiskFile, Store};
 use std::collections::HashMap;
 use std::fs::{self, File, TryLockError};
+use std::hint::black_box;
 use std::io::Read;
 use std::os::unix::fs::FileExt;
 use std::path::PathBuf;
@@ -16,8 +19,11 @@ use std::{env, error, thread};
 const USAGE: &str = "\
 usage: ledger load FOLDER [--accounts N] [--pages N] [--log KIB] [--frames N]
        ledger run FOLDER [--threads N] [--seconds N] [--seed N] [--opens PERCENT] [--sync 0]
-                         [--checkpoint MILLISECONDS] [--frames N] [--period N] [--k N]
+                         [--looks N] [--checkpoint MILLISECONDS] [--clean N] [--frames N] [--period N] [--k N]
        ledger check FOLDER [--frames N]";
+
+/// How many clients there may be.
+const CLIENTS: u64 = 14;
 
 /// Why it ends, in one line.
 type Done<T = ()> = Result<T, Box<dyn error::Error + Send + Sync>>;
@@ -108,21 +114,27 @@ fn check(settings: &Settings) -> Done {
 fn run(settings: &Settings) -> Done {
     let store = &settings.open()?;
     let (acks, has_ended) = (&settings.file("acks", false)?, &AtomicBool::new(false));
+    let looks = settings.number("--looks", 0);
     let accounts = bank::accounts(store)?;
     let client = |number| Client {
         store,
         number,
         accounts,
         opens: settings.number("--opens", 10),
+        waits: settings.number("--sync", 1) != 0,
         random: Random(settings.number("--seed", 1) << 8 | number),
     };
     let every = Duration::from_millis(settings.number("--checkpoint", 1_000));
+    let _cleaner = store.start_cleaner(
+        settings.number("--clean", 64) as usize,
+        Duration::from_millis(20),
+    )?;
     let seconds = Duration::from_secs(settings.number("--seconds", 10));
     println!("ready");
     let (began, mut checkpoints) = (Instant::now(), 0);
     let mut times: Vec<Duration> = thread::scope(|scope| {
         let clients = (0..settings.number("--threads", 4).min(CLIENTS)).map(client);
-        let work = |client| scope.spawn(move || or_end(work(client, acks, has_ended)));
+        let work = |client| scope.spawn(move || or_end(work(client, looks, acks, has_ended)));
         let workers: Vec<_> = clients.map(work).collect();
         while let Some(left) = seconds.checked_sub(began.elapsed()) {
             thread::sleep(every.min(left));
@@ -134,7 +146,7 @@ fn run(settings: &Settings) -> Done {
         times.flatten().collect()
     });
     times.sort_unstable();
-    let rate = times.len() as f64 / began.elapsed().as_secs_f64();
+    let rate = times.len() as f64 * looks.max(1) as f64 / began.elapsed().as_secs_f64();
     let p99 = times.get(times.len() * 99 / 100);
     let p99 = p99.map_or(0.0, |it| it.as_secs_f64() * 1e3);
     println!("{rate:.0} a second, p99 {p99:.3} ms, {checkpoints} checkpoints");
@@ -142,16 +154,39 @@ fn run(settings: &Settings) -> Done {
     Ok(())
 }
 
-/// Makes transactions until the end. Gives how long each took.
-fn work(mut client: Client, acks: &File, has_ended: &AtomicBool) -> Done<Vec<Duration>> {
+/// Makes transactions until the end, or so many look-ups at a time. Gives how long each took.
+fn work(
+    mut client: Client,
+    looks: u64,
+    acks: &File,
+    has_ended: &AtomicBool,
+) -> Done<Vec<Duration>> {
     let mut times = Vec::new();
     while !has_ended.load(Ordering::Relaxed) {
         let began = Instant::now();
+        if looks > 0 {
+            look_up(&mut client, looks)?;
+            times.push(began.elapsed());
+            continue;
+        }
         let count = client.step()?;
         times.push(began.elapsed());
-        acks.write_all_at(&count.to_le_bytes(), 8 * client.number)?;
+        if client.waits {
+            acks.write_all_at(&count.to_le_bytes(), 8 * client.number)?;
+        }
     }
     Ok(times)
+}
+
+/// Looks at the first numbers of so many accounts, one after the other.
+fn look_up(client: &mut Client, count: u64) -> Done {
+    for _ in 0..count {
+        let key = client.account();
+        let first = |value: Option<&[u8]>| value.and_then(|it| it.first_chunk::<8>().copied());
+        let balance = client.store.look(key, first)?;
+        black_box(balance.ok_or(format!("account {key} is gone"))?);
+    }
+    Ok(())
 }
 
 /// Ends the process where something failed: after a fault no thread is to go on. The first tells why.

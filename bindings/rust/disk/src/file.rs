@@ -1,0 +1,169 @@
+//! `DiskFile`, and what of its bytes stays without power.
+use crate::Disk;
+use crate::random::Random;
+use std::os::unix::fs::FileExt;
+use std::{io, mem};
+
+/// The bytes that a disk keeps whole: a write is torn between two such sectors, and not within one.
+pub const SECTOR: usize = 512;
+
+/// A file of a [`Disk`], which is used as one of the system. Clones of it are the same file.
+#[derive(Clone)]
+pub struct DiskFile {
+    pub(crate) disk: Disk,
+    pub(crate) number: usize,
+}
+
+/// What a request changes.
+#[derive(Clone)]
+pub(crate) enum Change {
+    Bytes(usize, Vec<u8>),
+    Length(usize),
+}
+
+/// A file as reads see it, and as it is without power.
+#[derive(Default)]
+pub(crate) struct Content {
+    pub(crate) seen: Vec<u8>,
+    kept: Vec<u8>,
+    /// What was changed since the last sync, and how many changes there were before.
+    waiting: Vec<Change>,
+    before: usize,
+}
+
+impl Change {
+    fn make(&self, bytes: &mut Vec<u8>) {
+        match self {
+            Change::Length(length) => bytes.resize(*length, 0),
+            Change::Bytes(at, new) => {
+                let end = at + new.len();
+                bytes.resize(bytes.len().max(end), 0);
+                bytes[*at..end].copy_from_slice(new);
+            }
+        }
+    }
+
+    /// The pieces that each come whole or not at all.
+    fn sectors(&self) -> Vec<Change> {
+        let Change::Bytes(at, bytes) = self else {
+            return vec![self.clone()];
+        };
+        let (mut pieces, mut at, mut rest) = (Vec::new(), *at, &bytes[..]);
+        while !rest.is_empty() {
+            let (piece, more) = rest.split_at(rest.len().min(SECTOR - at % SECTOR));
+            pieces.push(Change::Bytes(at, piece.to_vec()));
+            (at, rest) = (at + piece.len(), more);
+        }
+        pieces
+    }
+
+    /// The first pieces of it: none, some or all.
+    fn torn(&self, random: &mut Random) -> Vec<Change> {
+        let mut pieces = self.sectors();
+        pieces.truncate(random.below(pieces.len() + 1));
+        pieces
+    }
+}
+
+impl Content {
+    pub(crate) fn change(&mut self, change: Change) {
+        change.make(&mut self.seen);
+        self.waiting.push(change);
+    }
+
+    /// A change that fails: some of it may have come.
+    pub(crate) fn tear(&mut self, change: &Change, random: &mut Random) {
+        for piece in change.torn(random) {
+            self.change(piece);
+        }
+    }
+
+    /// How many changes there were.
+    pub(crate) fn changes(&self) -> usize {
+        self.before + self.waiting.len()
+    }
+
+    /// Keeps the first so many changes of all that there were.
+    pub(crate) fn sync(&mut self, changes: usize) {
+        let count = changes.saturating_sub(self.before);
+        for change in self.waiting.drain(..count) {
+            change.make(&mut self.kept);
+        }
+        self.before += count;
+    }
+
+    /// A sync that fails: half of the changes are seen, and no later sync keeps them.
+    pub(crate) fn fail_to_sync(&mut self, random: &mut Random) {
+        let changes = self.changes();
+        self.waiting.retain(|_| random.below(2) == 0);
+        self.before = changes - self.waiting.len();
+    }
+
+    /// Of what was not synced some is kept: nothing, all, what came first, or any sectors in any order.
+    pub(crate) fn lose_power(&mut self, random: &mut Random) {
+        self.before = self.changes();
+        let mut changes = mem::take(&mut self.waiting);
+        match random.below(6) {
+            0 => changes.clear(),
+            1 => {}
+            2 => {
+                changes.truncate(random.below(changes.len() + 1));
+                let last = changes.pop();
+                changes.extend(last.into_iter().flat_map(|it| it.torn(random)));
+            }
+            odds => {
+                changes = changes.iter().flat_map(Change::sectors).collect();
+                changes.retain(|_| random.below(8) < 2 * odds - 5);
+                for at in (1..changes.len()).rev() {
+                    changes.swap(at, random.below(at + 1));
+                }
+            }
+        }
+        changes.iter().for_each(|it| it.make(&mut self.kept));
+        self.seen.clone_from(&self.kept);
+    }
+}
+
+impl DiskFile {
+    /// Keeps all that was written before. While it waits others may write, whose writes are not kept by
+    /// it.
+    ///
+    /// # Errors
+    /// Where the power is off, or the sync was to fail. Then some of what was not synced is lost for
+    /// good, and is seen until the power fails.
+    pub fn sync_data(&self) -> io::Result<()> {
+        self.disk.sync(self.number)
+    }
+
+    /// Sets how many bytes there are. It stays by a sync, as a write does.
+    ///
+    /// # Errors
+    /// Where the power is off, or this write was to fail.
+    pub fn set_len(&self, length: u64) -> io::Result<()> {
+        self.disk
+            .change(self.number, Change::Length(length as usize))
+    }
+
+    /// How many bytes there are. It is no request, and does not fail.
+    pub fn len(&self) -> u64 {
+        self.disk.look(self.number, |seen| seen.len() as u64)
+    }
+
+    /// Whether there are none.
+    pub fn is_empty(&self) -> bool {
+        self.len() == 0
+    }
+}
+
+/// Each call is one request. A write is seen at once, and stays once it was synced.
+impl FileExt for DiskFile {
+    fn read_at(&self, bytes: &mut [u8], offset: u64) -> io::Result<usize> {
+        self.disk.read(self.number, bytes, offset as usize)
+    }
+
+    fn write_at(&self, bytes: &[u8], offset: u64) -> io::Result<usize> {
+        let change = Change::Bytes(offset as usize, bytes.to_vec());
+        self.disk.change(self.number, change)?;
+        Ok(bytes.len())
+    }
+}
