@@ -31,8 +31,6 @@ EXPERIMENTS = [
     ("zipfian", "peers/references.py zipfian 1 1000000", "zipfian.txt",
      "--k 1,2,3 --frames 40,60,80,100,120,140,160,180,200,250,300,400,500,600"),
     ("sqlite", "peers/sqlite_trace.py", "sqlite_reads.csv", f"--column 2 --k 1,2,3 --frames {SQLITE_FRAMES}"),
-    ("sqlite_no_scan", "peers/sqlite_trace.py --no-scan", "sqlite_no_scan_reads.csv",
-     f"--column 2 --k 1,2,3 --frames {SQLITE_FRAMES}"),
 ]
 DRAWN = ("two_pools", "zipfian", "sqlite")
 
@@ -129,19 +127,6 @@ def ratios_table(cells):
     return markdown(["frames", "LRU", "LRU-2", "LRU-3", "optimum", "B(1)/B(2)"], rows)
 
 
-def lost_table(with_scan, without):
-    """What the scan costs in hits, for all numbers of frames by which the history does not fit."""
-    rows = []
-    for frames in frames_of(with_scan)[:-1]:
-        row = [frames]
-        for k in ("1", "2", "3"):
-            hits = int(without[frames, k]["hits"])
-            row += [f"{hits:,}", f"{hits - int(with_scan[frames, k]['hits']):,}"]
-        rows.append(row)
-    names = ["frames"] + [it for name in ("LRU", "LRU-2", "LRU-3") for it in (f"{name}, no scan", "lost")]
-    return markdown(names, rows)
-
-
 def commands(experiment, list_bytes):
     name, maker, references, words = experiment
     digest = hashlib.sha256(list_bytes).hexdigest()[:16]
@@ -163,7 +148,6 @@ def sections(folder, drawn):
         found[name] = commands(experiment, bytes_of(folder, references))
         if name in DRAWN:
             found[name] += ratios_table(cells[name]) + picture(name, drawn)
-    found["sqlite_no_scan"] += lost_table(cells["sqlite"], cells["sqlite_no_scan"])
     return found
 
 

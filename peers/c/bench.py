@@ -4,6 +4,7 @@
     apt-get install -y libdb5.3-dev liblmdb-dev
     peers/c/bench.py [ROUNDS [SECONDS]]
     peers/c/bench.py threads [ROUNDS [SECONDS]]
+    peers/c/bench.py truncate [ROUNDS [SECONDS]]
 
 It builds peers/c/bench.c with the library of bindings/c, bindings/rust/examples/bench.rs, and peers/c/bench.c with
 Berkeley DB. A round runs the three one after the other for each use and page size, for SECONDS each. There are seven
@@ -20,6 +21,10 @@ alone; with K they have another K.
 With `threads` it measures the pager that many threads share, through Rust by bindings/rust/examples/bench_shared.rs and
 through C by peers/c/bench.c, in pages of 4,096 bytes and with 1, 2 and 4 threads. It has 4,096 frames. Beside it is peers/c/bench.c with Berkeley DB, and for look-ups
 in a tree also LMDB, by peers/c/lmdb.c. The operations are those of all threads.
+
+With `truncate` it measures what it takes to drop 10,000 pages of 4,096 bytes that are unsaved: by one call of
+hz_pager_discard, and by Berkeley DB's __memp_ftruncate, both by peers/c/truncate.c, which sees to it that neither
+writes any of them. The operations are pages.
 
 What stands on cargo, Berkeley DB or LMDB is left out where that is not there. The library comes of the proved one of
 $LIBRARY, or of the one that `rt lib` left in crates/hojzmated_c.
@@ -88,6 +93,25 @@ class Shared:
         if name != LMDB:
             return [cell[0], "4096", seconds, str(cell[1])]
         return [seconds, str(cell[1])] if cell[0] == "tree" else None
+
+
+class Truncate:
+    """Pages that are dropped. A cell is a use, how many pages and a correlated period."""
+    columns = "Use", "Pages"
+    cells = [("truncate", 10000, 20000 // 8)]
+
+    @staticmethod
+    def benches(folder, prefix):
+        linked = f"-I{prefix}/include", f"{prefix}/lib/libhojzmated_pager.a"
+        return {C: compiled(f"{folder}/truncate", "truncate.c", *linked),
+                PEER: compiled(f"{folder}/peer", "truncate.c", "-DBERKELEY", "-ldb", is_needed=False)}
+
+    @staticmethod
+    def words(_name, _cell, seconds):
+        return ["4096", seconds]
+
+
+MEASURES = {"threads": Shared, "truncate": Truncate}
 
 
 def compiled(path, source, *words, is_needed=True):
@@ -204,8 +228,8 @@ def numbers_of(words):
 
 
 def main(words):
-    measure = Shared if words[:1] == ["threads"] else Owner
-    numbers = numbers_of(words[1:] if measure == Shared else words)
+    measure = MEASURES.get(words[0] if words else None, Owner)
+    numbers = numbers_of(words if measure == Owner else words[1:])
     if not numbers:
         print(__doc__.strip(), file=sys.stderr)
         return 2

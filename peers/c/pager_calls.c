@@ -315,6 +315,23 @@ static void handles(void)
     SAYS("this thread has not fixed the page, or has given it back");
 }
 
+/* Of many pages that a thread has one after the other, each has a handle of its own, which is refused afterwards. */
+static void serials(void)
+{
+    hz_pager pager = start();
+    hz_ref first = fixed(&pager, 1, HZ_SHARED), last = first;
+    SAME(HZ_DONE, hz_pager_unfix(&first));
+    for (int i = 0; i < 70000; i++) {
+        hz_ref ref = fixed(&pager, 1, HZ_SHARED);
+        SAME(true, ref.serial != last.serial && ref.serial != first.serial);
+        SAME(HZ_UNKNOWN_PASS, hz_pager_unfix(&last));
+        SAME(HZ_DONE, hz_pager_unfix(&ref));
+        last = ref;
+    }
+    SAME(HZ_UNKNOWN_PASS, hz_pager_unfix(&first));
+    end(&pager);
+}
+
 static void *end_with_pages(void *pager)
 {
     fixed(pager, 1, HZ_EXCLUSIVE);
@@ -469,15 +486,20 @@ int main(void)
     nulls();
     no_pager();
     settings();
-    fixes();
-    new_pages();
-    discards();
-    puts_of();
-    handles();
-    ends_of_threads();
-    busy();
-    deadlocks();
-    no_victim();
+    static const uint64_t periods[] = {HZ_NO_PERIOD, FRAMES};
+    for (size_t i = 0; i < sizeof periods / sizeof *periods; i++) {
+        period = periods[i];
+        fixes();
+        new_pages();
+        discards();
+        puts_of();
+        handles();
+        serials();
+        ends_of_threads();
+        busy();
+        deadlocks();
+        no_victim();
+    }
     texts();
     return 0;
 }

@@ -131,6 +131,9 @@ static inline int sync_device(void *own)
 
 static const hz_io io = {&device, read_page, write_page, make_log_durable, sync_device};
 
+/* Else a page whose pass stays out for a while is fixed again without a lock. */
+static uint64_t period = HZ_NO_PERIOD;
+
 static inline hz_pager_config usual(void)
 {
     hz_pager_config config = {0};
@@ -138,7 +141,7 @@ static inline hz_pager_config usual(void)
     config.page_size = SIZE;
     config.frames = FRAMES;
     config.parts = 1;
-    config.correlated = HZ_NO_PERIOD;
+    config.correlated = period;
     config.pin_wait_ms = 20;
     return config;
 }

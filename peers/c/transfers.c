@@ -1,13 +1,15 @@
 /* Transfers between accounts in SQLite, Berkeley DB or LMDB: those of bindings/rust/examples/ledger, with the same keys
  * and values, drawn in the same way.
  *
- *     peers/c/transfers FOLDER ACCOUNTS THREADS SECONDS SYNC CACHE
+ *     peers/c/transfers FOLDER ACCOUNTS THREADS SECONDS SYNC CACHE [LOOKS]
  *
  * It is compiled with -DSQLITE, -DBERKELEY or -DLMDB. A transaction reads three rows and writes them: two accounts and the
  * counter of its thread. SYNC is 1 where each is kept once it has ended, and 0 where nothing is synced. CACHE is how many
- * bytes of pages may be in memory; LMDB has no such limit. The files are made anew in the folder.
+ * bytes of pages may be in memory; LMDB has no such limit. The files are made anew in the folder. With LOOKS there are no
+ * transactions: each thread looks so many accounts up at a time, each by itself.
  *
- * Printed: transactions a second of the wall clock over all threads, and the 99th percentile of their times in milliseconds.
+ * Printed: transactions or look-ups a second of the wall clock over all threads, and the 99th percentile of the times in
+ * milliseconds, of a transaction or of so many look-ups.
  */
 #include <pthread.h>
 #include <stdint.h>
@@ -21,7 +23,7 @@ enum { APART = 16, LONGEST = 256, NUMBERS = 24, MOST_THREADS = 14, MOST_TIMES = 
 #define COUNTERS (UINT64_C(1) << 63)
 
 static const char *folder;
-static uint64_t accounts, cache;
+static uint64_t accounts, cache, looks;
 static int is_synced;
 static volatile int has_ended;
 
@@ -73,6 +75,7 @@ static int get(struct session *, uint64_t key, struct row *); /* 0 where it is r
 static int put(struct session *, uint64_t key, const unsigned char *, size_t, int is_new);
 static int commit(struct session *);
 static void undo(struct session *);
+static void look(struct session *, uint64_t key, struct row *); /* without a transaction around it */
 static void keep(void); /* called each second */
 
 #ifdef SQLITE
@@ -156,6 +159,11 @@ static int commit(struct session *it)
 static void undo(struct session *it)
 {
     step(it->undo);
+}
+
+static void look(struct session *it, uint64_t key, struct row *row)
+{
+    get(it, key, row);
 }
 #endif
 
@@ -243,13 +251,24 @@ static void undo(struct session *it)
 {
     must(it->txn->abort(it->txn));
 }
+
+static void look(struct session *it, uint64_t key, struct row *row)
+{
+    (void)it;
+    unsigned char found[LONGEST];
+    uint64_t big = __builtin_bswap64(key);
+    DBT asked = {.data = &big, .size = sizeof big};
+    DBT value = {.data = found, .ulen = sizeof found, .flags = DB_DBT_USERMEM};
+    must(rows->get(rows, NULL, &asked, &value, 0));
+    memcpy(row->numbers, found, NUMBERS);
+}
 #endif
 
 #ifdef LMDB
 #include <lmdb.h>
 
 struct session {
-    MDB_txn *txn;
+    MDB_txn *txn, *reader;
 };
 
 static MDB_env *env;
@@ -276,7 +295,7 @@ static void keep(void) {}
 
 static struct session *session(void)
 {
-    return malloc(sizeof(struct session));
+    return calloc(1, sizeof(struct session));
 }
 
 static void begin(struct session *it)
@@ -308,6 +327,18 @@ static int commit(struct session *it)
 static void undo(struct session *it)
 {
     mdb_txn_abort(it->txn);
+}
+
+static void look(struct session *it, uint64_t key, struct row *row)
+{
+    if (it->reader)
+        must(mdb_txn_renew(it->reader));
+    else
+        must(mdb_txn_begin(env, NULL, MDB_RDONLY, &it->reader));
+    MDB_val asked = {sizeof key, &key}, value;
+    must(mdb_get(it->reader, rows, &asked, &value));
+    memcpy(row->numbers, value.mv_data, NUMBERS);
+    mdb_txn_reset(it->reader);
 }
 #endif
 
@@ -343,6 +374,7 @@ static void fill(void)
 struct worker {
     pthread_t thread;
     uint64_t number, random, count;
+    int64_t found; /* so that the compiler leaves no look out */
     float *times;
 };
 
@@ -357,6 +389,15 @@ static void *work(void *own)
 {
     struct worker *me = own;
     struct session *it = session();
+    while (!has_ended && looks && me->count < MOST_TIMES) {
+        struct row row;
+        double began = now();
+        for (uint64_t i = 0; i < looks; i++) {
+            look(it, account(&me->random), &row);
+            me->found += row.numbers[0];
+        }
+        me->times[me->count++] = (float)(now() - began);
+    }
     while (!has_ended && me->count < MOST_TIMES) {
         uint64_t from = account(&me->random), to = account(&me->random);
         int64_t amount = (int64_t)below(&me->random, 100);
@@ -384,14 +425,15 @@ static int order(const void *one, const void *other)
 
 int main(int count, char **words)
 {
-    if (count != 7)
-        fail("FOLDER ACCOUNTS THREADS SECONDS SYNC CACHE");
+    if (count != 7 && count != 8)
+        fail("FOLDER ACCOUNTS THREADS SECONDS SYNC CACHE [LOOKS]");
     folder = words[1];
     accounts = strtoull(words[2], NULL, 10);
     uint64_t threads = strtoull(words[3], NULL, 10), done = 0;
     double seconds = atof(words[4]);
     is_synced = atoi(words[5]);
     cache = strtoull(words[6], NULL, 10);
+    looks = count == 8 ? strtoull(words[7], NULL, 10) : 0;
     if (!accounts || !threads || threads > MOST_THREADS)
         fail("the numbers are out of their limits");
     make();
@@ -419,6 +461,7 @@ int main(int count, char **words)
     for (uint64_t number = 0, at = 0; number < threads; at += workers[number++].count)
         memcpy(times + at, workers[number].times, workers[number].count * sizeof *times);
     qsort(times, done, sizeof *times, order);
-    printf("%.0f a second, p99 %.3f ms\n", (double)done / elapsed, done ? times[done * 99 / 100] * 1e3 : 0);
+    printf("%.0f a second, p99 %.3f ms\n", (double)(done * (looks ? looks : 1)) / elapsed,
+           done ? times[done * 99 / 100] * 1e3 : 0);
     return 0;
 }

@@ -10,7 +10,8 @@ four one after the other: with 1 and 4 threads, with each transaction synced and
 than the rows and of a tenth of them. LMDB has no cache of its own, and stands in both. The files are in the folder,
 of a disk whose syncs cost what they cost there. Where nothing is said there are seven rounds of two seconds, and
 100,000 accounts. Printed are tables of the medians: transactions a second, and the 99th percentile of their times in
-milliseconds.
+milliseconds. A second table has look-ups alone, each by itself, with a cache of more than the rows: millions a second,
+and the 99th percentile of 64 of them in milliseconds.
 
 With `k` it measures the ledger alone, with a cache of a tenth and no syncs: the hit ratio and the rate for K 1, 2 and 3
 and periods of none, an eighth, a quarter and a half of the frames.
@@ -30,7 +31,7 @@ from importlib.util import module_from_spec, spec_from_loader
 
 TOP = os.path.dirname(os.path.dirname(os.path.dirname(os.path.realpath(__file__))))
 PEERS = [("SQLite", "SQLITE", "sqlite3"), ("Berkeley DB", "BERKELEY", "db"), ("LMDB", "LMDB", "lmdb")]
-PAGE = 4096
+PAGE, LOOKS = 4096, 64
 
 
 def kills():
@@ -69,10 +70,10 @@ def numbers(text):
     return [float(it) for it in re.search(r"([\d.]+) a second, p99 ([\d.]+) ms", text).groups()]
 
 
-def peer(program, folder, accounts, threads, seconds, is_synced, cache):
+def peer(program, folder, accounts, threads, seconds, is_synced, cache, *looks):
     shutil.rmtree(folder, ignore_errors=True)
     os.mkdir(folder)
-    return said(program, folder, accounts, threads, seconds, is_synced, cache)
+    return said(program, folder, accounts, threads, seconds, is_synced, cache, *looks)
 
 
 def built(folder):
@@ -100,6 +101,11 @@ def beside_others(ledger, folder, options):
                 text = (ledger.run(*how, frames) if name == ledger.name else
                         peer(programs[name], f"{folder}/peer", options["accounts"], *how, frames * PAGE))
                 cells.setdefault((part, sync, threads, name), []).append(numbers(text))
+        for threads, name in ((threads, name) for threads in (1, 4) for name in names):
+            frames, how = ledger.pages * 3 // 2, (threads, options["seconds"], 0)
+            text = (ledger.run(*how, frames, "--looks", LOOKS) if name == ledger.name else
+                    peer(programs[name], f"{folder}/peer", options["accounts"], *how, frames * PAGE, LOOKS))
+            cells.setdefault(("looks", threads, name), []).append(numbers(text))
         print(f"round {number + 1} of {options['rounds']}", flush=True)
     print("", f"| Cache | Sync | Threads | {' | '.join(names)} |", f"|---|---|---|{'---|' * len(names)}", sep="\n")
     for part, sync, threads in setups:
@@ -109,6 +115,10 @@ def beside_others(ledger, folder, options):
             row.append(f"{rate:,.0f}; {p99:.3f}")
         cache = "all" if part == 1 else "a tenth"
         print(f"| {cache} | {'each' if sync else 'none'} | {threads} | {' | '.join(row)} |")
+    print("", f"| Threads | {' | '.join(names)} |", f"|---|{'---|' * len(names)}", sep="\n")
+    for threads in 1, 4:
+        of_names = [[statistics.median(it) for it in zip(*cells["looks", threads, name])] for name in names]
+        print(f"| {threads} | {' | '.join(f'{rate / 1e6:.2f}; {p99:.3f}' for rate, p99 in of_names)} |")
     spreads = sorted((max(rates) - min(rates)) / statistics.median(rates)
                      for rates in ([rate for rate, _ in cell] for cell in cells.values()))
     half, most = statistics.median(spreads), spreads[-1]
@@ -144,7 +154,7 @@ def main(words):
             return 2
     with tempfile.TemporaryDirectory(prefix="transfers-", dir=folder) as own:
         module = kills()
-        engine = module.Engine(module.CRATE, module.prefix_in(own), f"{own}/target")
+        engine = module.Engine(module.CRATE, module.prefix_in(own), f"{own}/target", "release")
         ledger = Ledger(engine.ledger, own, options["accounts"])
         print(f"the tree has {ledger.pages} pages", flush=True)
         if of_periods:
