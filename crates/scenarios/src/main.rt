@@ -1,6 +1,6 @@
 //! Plays the scenarios of standard input: text with calls and the answers that were worked out by hand.
 //!
-//! A scenario is a line with its name, a line that makes something to call, and a line for each call. docs/SCENARIOS.md
+//! A scenario is a line with its name, a line that makes something to call, and a line for each call. README.md
 //! lists all lines. The status is 0 where all scenarios hold, 1 where one does not, and 2 where they could not be read
 //! or the report not be printed.
 #![tactic(auto)]
