@@ -23,8 +23,8 @@ through C by peers/c/bench.c, in pages of 4,096 bytes and with 1, 2 and 4 thread
 in a tree also LMDB, by peers/c/lmdb.c. The operations are those of all threads.
 
 With `truncate` it measures what it takes to drop 10,000 pages of 4,096 bytes that are unsaved: by one call of
-hz_pager_discard, and by Berkeley DB's __memp_ftruncate, both by peers/c/truncate.c, which sees to it that neither
-writes any of them. The operations are pages.
+hz_pager_discard, and by Berkeley DB's __memp_ftruncate, both by peers/c/truncate.c. That sees to it that all of them
+leave their frames, and neither reads or writes any. The operations are pages.
 
 What stands on cargo, Berkeley DB or LMDB is left out where that is not there. The library comes of the proved one of
 $LIBRARY, or of the one that `rt lib` left in crates/hojzmated_c.

@@ -4,9 +4,12 @@
  *     peers/c/truncate SIZE SECONDS
  *
  * Again and again 10,000 pages of SIZE bytes are made new, with a word in each, and then dropped by one call. These
- * calls alone are timed, until they have taken SECONDS in all. Both do the same work: before each call all pages are
- * unsaved, afterwards none is, and nothing was written. Else the program ends. It also ends where a page that is made
- * new does not have zeros.
+ * calls alone are timed, until they have taken SECONDS in all. Both do the same work: before each call all pages are in
+ * frames and unsaved, afterwards none is in a frame, and nothing was read or written. Else the program ends. It also
+ * ends where a page that is made new does not have zeros.
+ *
+ * The pages are those from 1 on. Page 0 of a file of Berkeley DB stays for good, as it tells what the file is: cut off
+ * before it, the file would seem to have the greatest number of pages, and each would be read and not made.
  *
  * Printed: pages dropped a second, and the share of them that were in frames.
  */
@@ -16,7 +19,7 @@
 #include <string.h>
 #include <time.h>
 
-enum { PAGES = 10000, PLACE = 64 };
+enum { PAGES = 10000, FIRST = 1, PLACE = 64 };
 static unsigned size;
 
 static void fail(const char *what)
@@ -32,9 +35,10 @@ static double now(void)
     return (double)t.tv_sec + (double)t.tv_nsec * 1e-9;
 }
 
-/* What is counted: pages that are unsaved, and write-outs so far. */
+/* What is counted: pages in frames, and those of them that are unsaved; pages that came by a read, and write-outs, so
+ * far. */
 struct counts {
-    uint64_t unsaved, writes;
+    uint64_t resident, unsaved, reads, writes;
 };
 
 #ifdef BERKELEY
@@ -55,7 +59,9 @@ static void start(void)
     env->set_cachesize(env, 0, PAGES * (size + 1024) * 2, 1);
     if (env->open(env, "truncate.d", DB_CREATE | DB_INIT_MPOOL | DB_PRIVATE | DB_THREAD, 0))
         fail("the environment");
-    if (env->memp_fcreate(env, &mpool, 0) || mpool->open(mpool, "pages", DB_CREATE, 0644, size))
+    /* Where no length to clear is set, none is cleared: a new page then has what its frame had before. */
+    if (env->memp_fcreate(env, &mpool, 0) || mpool->set_clear_len(mpool, size)
+        || mpool->open(mpool, "pages", DB_CREATE, 0644, size))
         fail("the page file");
 }
 
@@ -75,12 +81,10 @@ static void make(uint64_t number, uint64_t word)
         fail("memp_fput");
 }
 
-/* Drops all pages, and returns how many were in frames, which it does not tell. */
-static uint64_t drop(void)
+static void drop(void)
 {
-    if (__memp_ftruncate(mpool, NULL, NULL, 0, 0))
+    if (__memp_ftruncate(mpool, NULL, NULL, FIRST, 0))
         fail("memp_ftruncate");
-    return PAGES;
 }
 
 static struct counts counted(void)
@@ -88,7 +92,7 @@ static struct counts counted(void)
     DB_MPOOL_STAT *stat;
     if (env->memp_stat(env, &stat, NULL, 0))
         fail("memp_stat");
-    struct counts counts = {stat->st_page_dirty, stat->st_page_out};
+    struct counts counts = {stat->st_pages, stat->st_page_dirty, stat->st_cache_miss, stat->st_page_out};
     free(stat);
     return counts;
 }
@@ -99,12 +103,13 @@ static struct counts counted(void)
 #include "hojzmated_pager.h"
 
 static hz_pager pager;
+static uint64_t made; /* pages, by hz_pager_new_page */
 
 static void start(void)
 {
-    hz_pager_config config = {.pages = PAGES, .page_size = size, .frames = 2 * PAGES};
+    hz_pager_config config = {.pages = FIRST + PAGES, .page_size = size, .frames = 2 * PAGES};
     int file = open("truncate.pages", O_RDWR | O_CREAT | O_TRUNC, 0600);
-    if (file < 0 || ftruncate(file, (off_t)PAGES * size) || hz_pager_new_file(&config, file, 1, &pager))
+    if (file < 0 || ftruncate(file, (off_t)(FIRST + PAGES) * size) || hz_pager_new_file(&config, file, 1, &pager))
         fail("the pager");
 }
 
@@ -118,14 +123,14 @@ static void make(uint64_t number, uint64_t word)
             fail("a new page is not empty");
     if (hz_pager_put(&page, PLACE, (uint8_t *)&word, sizeof word, 1) || hz_pager_unfix(&page))
         fail("put");
+    made++;
 }
 
-static uint64_t drop(void)
+static void drop(void)
 {
     uint64_t resident;
-    if (hz_pager_discard(&pager, 0, PAGES, &resident))
+    if (hz_pager_discard(&pager, FIRST, PAGES, &resident) || resident != PAGES)
         fail("discard");
-    return resident;
 }
 
 static struct counts counted(void)
@@ -133,7 +138,7 @@ static struct counts counted(void)
     hz_pager_stats stats;
     if (hz_pager_stats_of(&pager, &stats))
         fail("stats");
-    return (struct counts){stats.unsaved, stats.writes};
+    return (struct counts){stats.resident, stats.unsaved, stats.faults - made, stats.writes};
 }
 #endif
 
@@ -146,16 +151,21 @@ int main(int argc, char **argv)
     start();
     uint64_t dropped = 0, resident = 0;
     for (uint64_t round = 1; spent < most; round++) {
-        for (uint64_t page = 0; page < PAGES; page++)
+        for (uint64_t page = FIRST; page < FIRST + PAGES; page++)
             make(page, round);
-        if (counted().unsaved != PAGES || counted().writes != 0)
-            fail("not all pages are unsaved");
+        struct counts before = counted();
+        if (before.resident != PAGES || before.unsaved != PAGES)
+            fail("not all pages are in frames, and unsaved");
         double began = now();
-        resident += drop();
+        drop();
         spent += now() - began;
+        struct counts after = counted();
+        if (after.resident != 0 || after.unsaved != 0)
+            fail("pages are in frames still");
+        if (after.reads != 0 || after.writes != 0)
+            fail("pages were read, or written");
+        resident += before.resident - after.resident;
         dropped += PAGES;
-        if (counted().unsaved != 0 || counted().writes != 0)
-            fail("pages are unsaved still, or were written");
     }
     printf("%.0f %.3f\n", (double)dropped / spent, (double)resident / (double)dropped);
     return 0;
