@@ -15,8 +15,9 @@
 //! the plain one, and the memory of its pager.
 //!
 //! With `ahead` each read takes 100 us and more, as long as a thread sleeps that wants to sleep so long.
-//! One thread scans, with pages read ahead by so many threads, one by one or up to 16 by one read: printed
-//! are the pages in a second, and how many times that of the plain scan it is.
+//! The third thread scans with pages read ahead by so many threads, one by one or up to 16 by one read:
+//! printed are the pages in a second, how many times that of the plain scan it is, and the pages that had
+//! to be read for a look-up.
 //!
 //! With `calls` one thread scans 1,000,000 pages, which need no device, with 65,536 frames in one part:
 //! printed are the mean and the greatest time of a call, the pages that are remembered at the end and the
@@ -276,8 +277,10 @@ fn beside_look_ups(length: Duration) -> Outcome<()> {
 
 /// What is gained by reading ahead where reads are slow.
 fn ahead(length: Duration) -> Outcome<()> {
-    println!("| Ahead | Threads | Pages of a read | Scanned a second | Times the plain scan |");
-    println!("{}|", "|---".repeat(5));
+    println!(
+        "| Ahead | Threads | Pages of a read | Scanned a second | Times the plain scan | Reads for a look-up |"
+    );
+    println!("{}|", "|---".repeat(6));
     let mut plain = 0.0;
     for (ahead, readers, most) in [
         (0, 0, 1),
@@ -291,15 +294,12 @@ fn ahead(length: Duration) -> Outcome<()> {
             delay: Some(SLOW),
             most,
         };
-        let run = run(&settings(), pages, (ahead, readers), 0, length)?;
+        let run = run(&settings(), pages, (ahead, readers), 2, length)?;
         if ahead == 0 {
             plain = run.rate;
         }
-        let times = run.rate / plain;
-        println!(
-            "| {ahead} | {readers} | {most} | {:.0} | {times:.1} |",
-            run.rate
-        );
+        let (rate, times, reads) = (run.rate, run.rate / plain, run.reads_for_look_up);
+        println!("| {ahead} | {readers} | {most} | {rate:.0} | {times:.1} | {reads:.4} |");
     }
     Ok(())
 }

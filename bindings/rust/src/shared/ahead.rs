@@ -18,6 +18,9 @@ use std::thread::{self, JoinHandle};
 const MOST_WAITING: usize = 4096;
 /// So many pages are added in one go.
 const FEW: usize = 64;
+/// Who leaves pages on the list wakes so many threads, and each of these does so too. Thus a few pages do not
+/// wake all that sleep, most of them for nothing, and who asks for many does not wake them all alone.
+const WOKEN: usize = 2;
 /// The pages that are to be read ahead, in the order in which they were asked for.
 #[derive(Default)]
 pub(super) struct Ahead {
@@ -28,8 +31,9 @@ pub(super) struct Ahead {
 #[derive(Default)]
 struct Wanted {
     pages: VecDeque<Want>,
-    /// The number of threads that read.
+    /// The number of threads that read, and of those that sleep until there are pages.
     readers: usize,
+    sleeping: usize,
 }
 
 /// A page that is to be read, and what was noted of it when it was asked for.
@@ -56,13 +60,15 @@ impl Ahead {
         };
         let added = &pages[..room.min(pages.len())];
         wanted.pages.extend(added);
-        drop(wanted);
-        match added.len() {
-            0 => {}
-            1 => self.comes.notify_one(),
-            _ => self.comes.notify_all(),
-        }
+        self.wake_for_the_rest(wanted);
         added.len()
+    }
+
+    /// Wakes threads, if any sleep, for the pages that are on the list.
+    fn wake_for_the_rest(&self, wanted: MutexGuard<'_, Wanted>) {
+        let count = WOKEN.min(wanted.sleeping).min(wanted.pages.len());
+        drop(wanted);
+        (0..count).for_each(|_| self.comes.notify_one());
     }
 
     /// Waits for pages to read: the first of a row, and how many there are side by side. It is None
@@ -80,6 +86,8 @@ impl Ahead {
                 if wanted.readers == 0 {
                     wanted.pages.clear();
                 }
+                // It may have been woken in another's place.
+                self.wake_for_the_rest(wanted);
                 return None;
             }
             if let Some(first) = wanted.pages.pop_front() {
@@ -96,10 +104,13 @@ impl Ahead {
                     wanted.pages.pop_front();
                     end += 1;
                 }
+                self.wake_for_the_rest(wanted);
                 return Some((first, (end - first) as usize));
             }
+            wanted.sleeping += 1;
             let waited = self.comes.wait(wanted);
             wanted = waited.unwrap_or_else(PoisonError::into_inner);
+            wanted.sleeping -= 1;
         }
     }
 

@@ -502,6 +502,25 @@ fn readers_end() {
     drop(pager.start_readers(0).unwrap());
 }
 
+// While some threads end, what is asked for is read by others: also where one that ends was woken for it.
+#[test]
+fn pages_are_read_while_others_end() {
+    let _watch = Watch::over("pages_are_read_while_others_end", 60);
+    let pager = shared(8);
+    let stay = pager.start_readers(1).unwrap();
+    for _ in 0..300 {
+        let others = pager.start_readers(2).unwrap();
+        thread::scope(|threads| {
+            threads.spawn(|| assert_eq!(pager.prefetch([3, 5]), 2));
+            drop(others);
+        });
+        wait_for(&pager, [3, 5]);
+        pager.discard(3).unwrap();
+        pager.discard(5).unwrap();
+    }
+    drop(stay);
+}
+
 /// Scans again and again, with pages read ahead, and takes a checkpoint after each. The bytes of a page
 /// are all the same.
 fn scan_until(pager: &SharedPager<Rows>, is_over: &AtomicBool) {
