@@ -1,16 +1,11 @@
-//! `Device`: where pages and log are kept, and `DiskFile`, a file of the system.
+//! `Device`: what the store needs of a file.
 use std::fs::File;
 use std::io;
 use std::os::unix::fs::FileExt;
 
-/// Where bytes are kept: a file, or in tests a disk in memory whose power fails.
-pub trait Device: Send + Sync {
-    /// Fills `bytes` from the offset on. It fails where the device ends before.
-    fn read_at(&self, bytes: &mut [u8], offset: u64) -> io::Result<()>;
-
-    /// Writes all bytes, in any order, until the next `sync`.
-    fn write_at(&self, bytes: &[u8], offset: u64) -> io::Result<()>;
-
+/// A file, or in tests one on a disk in memory whose power fails. What is written stays, in any order,
+/// once it was synced.
+pub trait Device: FileExt + Send + Sync {
     /// Returns once all that was written stays, also without power.
     fn sync(&self) -> io::Result<()>;
 
@@ -22,35 +17,18 @@ pub trait Device: Send + Sync {
         let zeros = vec![0; 1 << 20];
         for at in (0..size).step_by(zeros.len()) {
             let count = (size - at).min(zeros.len() as u64);
-            self.write_at(&zeros[..count as usize], at)?;
+            self.write_all_at(&zeros[..count as usize], at)?;
         }
         Ok(())
     }
 }
 
-/// A file, whose syncs may be left out to see what they cost.
-pub struct DiskFile {
-    pub file: File,
-    pub is_synced: bool,
-}
-
-impl Device for DiskFile {
-    fn read_at(&self, bytes: &mut [u8], offset: u64) -> io::Result<()> {
-        self.file.read_exact_at(bytes, offset)
-    }
-
-    fn write_at(&self, bytes: &[u8], offset: u64) -> io::Result<()> {
-        self.file.write_all_at(bytes, offset)
-    }
-
+impl Device for File {
     fn sync(&self) -> io::Result<()> {
-        match self.is_synced {
-            true => self.file.sync_data(),
-            false => Ok(()),
-        }
+        self.sync_data()
     }
 
     fn size(&self) -> io::Result<u64> {
-        Ok(self.file.metadata()?.len())
+        Ok(self.metadata()?.len())
     }
 }

@@ -15,7 +15,7 @@ mod transaction;
 mod tree;
 mod verify;
 
-pub use device::{Device, DiskFile};
+pub use device::Device;
 pub use store::Store;
 pub use transaction::Transaction;
 

@@ -1,7 +1,7 @@
 //! A load of many rows, and the drop of all: pages without records, and pages that nobody wants.
-use crate::mini::{Memory, Mini, Stop};
-use crate::node::{self, BODY, CONTENT, Node};
-use crate::tree::{ROOT, misplaced};
+use crate::mini::{Mini, Stop};
+use crate::node::{self, BODY, CONTENT};
+use crate::tree::pages_below;
 use crate::{Error, Result, Store};
 use std::mem;
 
@@ -12,7 +12,7 @@ struct Load<'a> {
     lsn: u64,
     /// Of each level the node that is filled, and its first key.
     open: Vec<(Vec<u8>, u64)>,
-    /// The pages that were filled.
+    /// The pages that were filled, until a record says that they are used.
     pages: Vec<u64>,
 }
 
@@ -63,6 +63,12 @@ impl Load<'_> {
     }
 }
 
+impl Drop for Load<'_> {
+    fn drop(&mut self) {
+        self.store.give_back(&mut self.pages);
+    }
+}
+
 impl Store {
     /// Puts many rows into an empty store, in the order of their keys. Once it returns they are kept.
     /// Their pages are filled without records, and written out before the one record that makes them
@@ -78,16 +84,6 @@ impl Store {
             open: Vec::new(),
             pages: Vec::new(),
         };
-        let done = self.load_into(&mut load, rows);
-        self.give_back(None, &mut load.pages, &mut Vec::new());
-        done
-    }
-
-    fn load_into<V: AsRef<[u8]>>(
-        &self,
-        load: &mut Load,
-        rows: impl IntoIterator<Item = (u64, V)>,
-    ) -> Result<()> {
         let mut last = None;
         for (key, value) in rows {
             if last >= Some(key) {
@@ -105,7 +101,7 @@ impl Store {
         while self.log().marked() < end {
             self.checkpoint()?;
         }
-        self.replace(&root, &load.pages, |root| match root {
+        self.replace(&root, |root| match root {
             [0] => Ok(Vec::new()),
             _ => Err(Error::NoRoom("the store is not empty")),
         })?;
@@ -119,31 +115,21 @@ impl Store {
     /// # Errors
     /// As those of a commit.
     pub fn clear(&self) -> Result<()> {
-        self.replace(&[0], &[], |root| {
-            let mut pages = Vec::new();
-            self.drain(root, &mut pages)?;
-            Ok(pages)
-        })?;
+        self.replace(&[0], |root| pages_below(&self.pager, root))?;
         self.reclaim();
         Ok(())
     }
 
-    /// Gives the root another body, while nobody passes it, and has that stay. Some pages come into use by
-    /// it. What looks at the root before tells which are free by it.
-    fn replace(
-        &self,
-        body: &[u8],
-        taken: &[u64],
-        freed: impl Fn(&[u8]) -> Result<Vec<u64>>,
-    ) -> Result<()> {
+    /// Gives the root another body, while nobody passes it, and has that stay. What looks at the root
+    /// before tells which pages are free by it.
+    fn replace(&self, body: &[u8], freed: impl Fn(&[u8]) -> Result<Vec<u64>>) -> Result<()> {
         loop {
-            let mut memory = Memory::default();
-            let mut mini = Mini::new(self, &mut memory, u8::MAX);
+            let mut mini = Mini::new(self, u8::MAX);
             mini.latch(&[])?;
             let freed = freed(mini.root())?;
             // Not before: who is waited for may have to pass the gate, too.
             mini.pass_gate();
-            mini.replace_root(body, taken, &freed);
+            mini.replace_root(body, &freed);
             let published = mini.publish();
             drop(mini);
             match published {
@@ -152,25 +138,5 @@ impl Store {
                 Err(_) => self.checkpoint()?,
             }
         }
-    }
-
-    /// Waits until nobody is below a node that is latched, and lists the pages there.
-    fn drain(&self, body: &[u8], pages: &mut Vec<u64>) -> Result<()> {
-        let node = Node(body);
-        let Some(level) = node.level().filter(|level| *level > 0) else {
-            return Ok(());
-        };
-        for (key, _) in node.entries() {
-            let Some((_, child, _)) = node.child(key) else {
-                return misplaced(ROOT);
-            };
-            pages.push(child);
-            // Who is at a leaf has it in a frame.
-            if level > 1 || self.pager.is_resident(child) {
-                let page = self.pager.write(child)?;
-                self.drain(node::body(page.bytes()), pages)?;
-            }
-        }
-        Ok(())
     }
 }

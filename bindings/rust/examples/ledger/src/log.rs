@@ -131,7 +131,7 @@ impl Log {
             record.clear();
             record.resize(HEAD, 0);
             if at + HEAD as u64 <= size {
-                self.device.read_at(&mut record, place)?;
+                self.device.read_exact_at(&mut record, place)?;
             }
             if word(&record, 0) != lsn || word(&record, 8) != turn {
                 return Ok(false);
@@ -141,7 +141,7 @@ impl Log {
                 return Ok(true);
             }
             record.resize(length as usize, 0);
-            self.device.read_at(&mut record, place)?;
+            self.device.read_exact_at(&mut record, place)?;
             if record[SUM..HEAD] != crc32c(&[&record[HEAD..], &record[..SUM]]).to_le_bytes() {
                 return Ok(true);
             }
@@ -223,7 +223,7 @@ impl Log {
         let place = tail.turn % 2 * (self.fixed[3] / 2) + MARK + end - size - tail.start;
         drop(tail);
         if size > 0 {
-            self.stop_unless(self.device.write_at(spare, place))?;
+            self.stop_unless(self.device.write_all_at(spare, place))?;
             spare.clear();
         }
         Ok(end)
@@ -288,7 +288,7 @@ fn write_mark(device: &dyn Device, fixed: [u64; 4], half: [u64; 3]) -> io::Resul
     let words = [&fixed[..], &half].concat();
     let mut mark: Vec<u8> = words.into_iter().flat_map(u64::to_le_bytes).collect();
     mark.extend(crc32c(&[&mark]).to_le_bytes());
-    device.write_at(&mark, half[0] % 2 * (fixed[3] / 2))?;
+    device.write_all_at(&mark, half[0] % 2 * (fixed[3] / 2))?;
     device.sync()
 }
 
@@ -298,17 +298,13 @@ fn marks_of(device: &dyn Device) -> io::Result<Vec<[u64; 7]>> {
     for place in [0, size / 2] {
         let mut mark = [0; MARK_SUM + 4];
         if size >= 2 * MARK {
-            device.read_at(&mut mark, place)?;
+            device.read_exact_at(&mut mark, place)?;
         }
-        marks.extend(words_of(&mark));
+        let (words, sum) = mark.split_at(MARK_SUM);
+        if sum == crc32c(&[words]).to_le_bytes() {
+            marks.push(array::from_fn(|at| word(words, 8 * at)));
+        }
     }
     marks.sort_by_key(|mark| mark[4]);
     Ok(marks)
-}
-
-/// The numbers of a mark, if it is one.
-fn words_of(mark: &[u8]) -> Option<[u64; 7]> {
-    let (words, sum) = mark.split_at(MARK_SUM);
-    let is_good = sum == crc32c(&[words]).to_le_bytes();
-    is_good.then(|| array::from_fn(|at| word(words, 8 * at)))
 }

@@ -9,11 +9,12 @@
 //! has to be split or taken out, all is let go, nothing is changed, and a second mini transaction has the
 //! exclusive latches of the leaves' parents too; and so on upwards.
 use crate::node::{self, BODY, CONTENT, Node, SINCE, word};
-use crate::record::{Change, pages_of_map};
+use crate::record::Change;
 use crate::transaction::Entry;
-use crate::tree::{ROOT, level_of, misplaced};
+use crate::tree::{Place, ROOT};
 use crate::{Error, Result, Store};
 use hojzmated::{PageMut, PageRef, PagerError};
+use std::cell::Cell;
 use std::cmp::Reverse;
 use std::sync::RwLockReadGuard;
 use std::{mem, thread};
@@ -33,24 +34,17 @@ impl<E: Into<Error>> From<E> for Stop {
     }
 }
 
-/// The level of a map, which comes after all nodes.
-const MAP: u8 = u8::MAX;
-
 /// A page under its exclusive latch.
 struct Latched<'a> {
     page: PageMut<'a>,
-    number: u64,
-    level: u8,
-    /// The first key that it may have, and that of the next node.
-    low: u64,
-    high: Option<u64>,
-    /// The place of the node above, if that is latched too.
+    place: Place,
+    /// The node above, if that is latched too.
     above: Option<usize>,
     /// What it will have, if that is something else.
     body: Option<Vec<u8>>,
 }
 
-/// A node on the way: under a shared latch, or the place of one that is [`Latched`].
+/// A node on the way: under a shared latch, or which one it is of those that are [`Latched`].
 enum Held<'a> {
     Shared(PageRef<'a>),
     Alone(usize),
@@ -58,7 +52,7 @@ enum Held<'a> {
 
 /// Memory for mini transactions, which is used again and again.
 #[derive(Default)]
-pub struct Memory {
+struct Memory {
     pages: Vec<Latched<'static>>,
     bodies: Vec<Vec<u8>>,
     record: Vec<u8>,
@@ -66,10 +60,15 @@ pub struct Memory {
     freed: Vec<u64>,
 }
 
+thread_local! {
+    /// The memory of this thread for its next mini transaction.
+    static KEPT: Cell<Memory> = Cell::default();
+}
+
 /// A mini transaction. If it is dropped before it is published nothing was changed.
-pub struct Mini<'a, 'm> {
+pub struct Mini<'a> {
     store: &'a Store,
-    memory: &'m mut Memory,
+    memory: Memory,
     /// Nodes up to this level are latched exclusively.
     height: u8,
     pages: Vec<Latched<'a>>,
@@ -81,14 +80,14 @@ pub struct Mini<'a, 'm> {
     lsn: Option<u64>,
 }
 
-impl<'a, 'm> Mini<'a, 'm> {
-    pub fn new(store: &'a Store, memory: &'m mut Memory, height: u8) -> Mini<'a, 'm> {
-        let pages = mem::take(&mut memory.pages);
+impl<'a> Mini<'a> {
+    pub fn new(store: &'a Store, height: u8) -> Mini<'a> {
+        let mut memory = KEPT.take();
         Mini {
             store,
-            memory,
             height,
-            pages,
+            pages: mem::take(&mut memory.pages),
+            memory,
             last: None,
             gate: None,
             start: 0,
@@ -99,89 +98,59 @@ impl<'a, 'm> Mini<'a, 'm> {
     /// Latches the leaves of these keys, which rise.
     pub fn latch(&mut self, keys: &[Entry]) -> Result<()> {
         let root = self.store.pager.read(ROOT)?;
-        let mut level = level_of(ROOT, &root, None)?;
-        let held = if level > self.height {
+        let mut place = Place::of_root(&root)?;
+        let held = if place.level > self.height {
             Held::Shared(root)
         } else {
             // A shared latch does not become an exclusive one, and the root may grow meanwhile.
             drop(root);
             let page = self.store.pager.write(ROOT)?;
-            level = level_of(ROOT, page.bytes(), None)?;
-            self.add(page, ROOT, level, (0, None), None)
+            place = Place::of_root(page.bytes())?;
+            Held::Alone(self.add(page, place, None))
         };
-        self.last = Some((0, Reverse(level)));
-        self.walk(&held, level, (0, None), keys)
+        self.last = Some((0, Reverse(place.level)));
+        self.walk(&held, place, keys)
     }
 
     /// Latches the leaves of some keys below a node, from left to right.
-    fn walk(
-        &mut self,
-        node: &Held<'a>,
-        level: u8,
-        (low, high): (u64, Option<u64>),
-        mut keys: &[Entry],
-    ) -> Result<()> {
-        while let Some(first) = keys.first().filter(|_| level > 0) {
-            let (bytes, above) = match node {
+    fn walk(&mut self, node: &Held<'a>, place: Place, mut keys: &[Entry]) -> Result<()> {
+        while let Some(first) = keys.first().filter(|_| place.level > 0) {
+            let (image, above) = match node {
                 Held::Shared(page) => (&page[..], None),
-                Held::Alone(place) => (self.pages[*place].page.bytes(), Some(*place)),
+                Held::Alone(at) => (self.pages[*at].page.bytes(), Some(*at)),
             };
-            let Some((from, child, next)) = Node(node::body(bytes)).child(first.key) else {
-                return misplaced(above.map_or(ROOT, |place| self.pages[place].number));
-            };
-            let range = (from.max(low), next.or(high));
-            let below = self.hold(child, level - 1, range, above)?;
-            let is_within = |it: &Entry| range.1.is_none_or(|high| it.key < high);
-            let count = keys.partition_point(is_within).max(1);
-            self.walk(&below, level - 1, range, &keys[..count])?;
+            let child = place.child(image, first.key)?;
+            let held = self.hold(child, above)?;
+            let count = keys.partition_point(|it| child.has(it.key)).max(1);
+            self.walk(&held, child, &keys[..count])?;
             keys = &keys[count..];
         }
         Ok(())
     }
 
     /// Latches a node.
-    fn hold(
-        &mut self,
-        number: u64,
-        level: u8,
-        range: (u64, Option<u64>),
-        above: Option<usize>,
-    ) -> Result<Held<'a>> {
-        let place = Some((range.0, Reverse(level)));
-        debug_assert!(
-            self.last < place,
-            "latches are taken in the order of a walk"
-        );
-        self.last = place;
-        let pager = &self.store.pager;
-        if level > self.height {
-            let page = pager.read(number)?;
-            level_of(number, &page, Some(level))?;
+    fn hold(&mut self, place: Place, above: Option<usize>) -> Result<Held<'a>> {
+        let (last, pager) = (Some((place.low, Reverse(place.level))), &self.store.pager);
+        debug_assert!(self.last < last, "latches are taken as by a walk");
+        self.last = last;
+        if place.level > self.height {
+            let page = pager.read(place.page)?;
+            place.check(&page)?;
             return Ok(Held::Shared(page));
         }
-        let page = pager.write(number)?;
-        level_of(number, page.bytes(), Some(level))?;
-        Ok(self.add(page, number, level, range, above))
+        let page = pager.write(place.page)?;
+        place.check(page.bytes())?;
+        Ok(Held::Alone(self.add(page, place, above)))
     }
 
-    fn add(
-        &mut self,
-        page: PageMut<'a>,
-        number: u64,
-        level: u8,
-        (low, high): (u64, Option<u64>),
-        above: Option<usize>,
-    ) -> Held<'a> {
+    fn add(&mut self, page: PageMut<'a>, place: Place, above: Option<usize>) -> usize {
         self.pages.push(Latched {
             page,
-            number,
-            level,
-            low,
-            high,
+            place,
             above,
             body: None,
         });
-        Held::Alone(self.pages.len() - 1)
+        self.pages.len() - 1
     }
 
     /// The body that a page will have.
@@ -190,12 +159,11 @@ impl<'a, 'm> Mini<'a, 'm> {
         it.body.as_deref().unwrap_or(node::body(it.page.bytes()))
     }
 
-    /// The place of the leaf of a key.
+    /// Which page is the leaf of a key.
     fn leaf(&self, key: u64) -> usize {
-        let has_key =
-            |it: &Latched| it.level == 0 && it.low <= key && it.high.is_none_or(|high| key < high);
-        let place = self.pages.iter().position(has_key);
-        place.expect("the leaf was latched")
+        let mut pages = self.pages.iter();
+        let found = pages.position(|it| it.place.level == 0 && it.place.has(key));
+        found.expect("the leaf was latched")
     }
 
     /// The value of a key whose leaf is latched.
@@ -211,7 +179,7 @@ impl<'a, 'm> Mini<'a, 'm> {
 
     /// Makes a change of the body that a page will have, and notes it for the log.
     fn change(&mut self, at: usize, change: Change) {
-        let (it, memory) = (&mut self.pages[at], &mut *self.memory);
+        let (it, memory) = (&mut self.pages[at], &mut self.memory);
         let body = it.body.get_or_insert_with(|| {
             let (bytes, mut copy) = (it.page.bytes(), memory.bodies.pop().unwrap_or_default());
             copy.clear();
@@ -219,12 +187,12 @@ impl<'a, 'm> Mini<'a, 'm> {
             // A page whose write-out was torn is mended from the log: so the first change of a page
             // in a half of the log comes behind the whole body.
             if word(bytes, SINCE) != self.start && !matches!(change, Change::Body(_)) {
-                Change::Body(&copy).add(it.number, &mut memory.record);
+                Change::Body(&copy).add(it.place.page, &mut memory.record);
             }
             copy
         });
-        change.add(it.number, &mut memory.record);
-        change.make(body).expect("the page is a node, or a map");
+        change.add(it.place.page, &mut memory.record);
+        change.make(body).expect("the page is a node");
     }
 
     /// The body of the root, if that was latched first.
@@ -232,9 +200,8 @@ impl<'a, 'm> Mini<'a, 'm> {
         self.body(0)
     }
 
-    /// Gives the root another body, with pages that come into use, and others that are free by it.
-    pub fn replace_root(&mut self, body: &[u8], taken: &[u64], freed: &[u64]) {
-        self.memory.taken.extend_from_slice(taken);
+    /// Gives the root another body, by which some pages are free.
+    pub fn replace_root(&mut self, body: &[u8], freed: &[u64]) {
         self.memory.freed.extend_from_slice(freed);
         self.change(0, Change::Body(body));
     }
@@ -261,44 +228,43 @@ impl<'a, 'm> Mini<'a, 'm> {
     /// Splits a node. Its upper half comes into a new one, and that into the node above. Both halves
     /// of the root go into new nodes below it.
     fn split(&mut self, at: usize) -> Result<(), Stop> {
-        let at = if self.pages[at].number == ROOT {
-            self.lower_root(at)?
-        } else {
-            at
+        let at = match self.pages[at].place.page {
+            ROOT => self.lower_root(at)?,
+            _ => at,
         };
-        let Latched {
-            level, high, above, ..
-        } = self.pages[at];
+        let Latched { place, above, .. } = self.pages[at];
         let above = above.ok_or(Stop::Above)?;
-        let (first, mut body) = (Node(self.body(at)).middle(), self.empty_body());
-        node::add_upper(self.body(at), first, &mut body);
-        let upper = self.new_node(level, (first, high), above, body)?;
-        self.change(at, Change::Cut(first));
-        self.pages[at].high = Some(first);
-        for it in &mut self.pages {
-            if it.above == Some(at) && it.low >= first {
-                it.above = Some(upper);
-            }
-        }
-        let number = self.pages[upper].number.to_le_bytes();
-        self.set(above, first, &number)
+        let (low, mut body) = (Node(self.body(at)).middle(), self.empty_body());
+        node::add_upper(self.body(at), low, &mut body);
+        let upper = self.new_node(Place { low, ..place }, above, body)?;
+        self.change(at, Change::Cut(low));
+        self.pages[at].place.high = Some(low);
+        self.move_below(at, upper);
+        let page = self.pages[upper].place.page.to_le_bytes();
+        self.set(above, low, &page)
     }
 
-    /// Moves what the root has into a new node below it. Gives the place of that.
+    /// Moves what the root has into a new node below it. Gives which one that is.
     fn lower_root(&mut self, root: usize) -> Result<usize, Stop> {
-        let (level, mut body) = (self.pages[root].level, self.empty_body());
+        let (place, mut body) = (self.pages[root].place, self.empty_body());
         body.extend_from_slice(self.body(root));
-        let lower = self.new_node(level, (0, None), root, body)?;
+        let lower = self.new_node(place, root, body)?;
+        self.move_below(root, lower);
+        let page = self.pages[lower].place.page.to_le_bytes();
+        self.change(root, Change::Body(&[place.level + 1]));
+        self.change(root, Change::Set(0, &page));
+        self.pages[root].place.level += 1;
+        Ok(lower)
+    }
+
+    /// Has the latched children of a node that belong below another one be there.
+    fn move_below(&mut self, from: usize, to: usize) {
+        let low = self.pages[to].place.low;
         for (at, it) in self.pages.iter_mut().enumerate() {
-            if it.above == Some(root) && at != lower {
-                it.above = Some(lower);
+            if it.above == Some(from) && it.place.low >= low && at != to {
+                it.above = Some(to);
             }
         }
-        let number = self.pages[lower].number.to_le_bytes();
-        self.change(root, Change::Body(&[level + 1]));
-        self.change(root, Change::Set(0, &number));
-        self.pages[root].level = level + 1;
-        Ok(lower)
     }
 
     fn empty_body(&mut self) -> Vec<u8> {
@@ -308,19 +274,12 @@ impl<'a, 'm> Mini<'a, 'm> {
     }
 
     /// Takes a free page for a node with this body. It is not read.
-    fn new_node(
-        &mut self,
-        level: u8,
-        range: (u64, Option<u64>),
-        above: usize,
-        body: Vec<u8>,
-    ) -> Result<usize, Stop> {
-        let number = self.store.take_page()?;
-        self.memory.taken.push(number);
-        let page = self.store.pager.new_page(number)?;
-        let at = self.pages.len();
-        self.add(page, number, level, range, Some(above));
-        Change::Body(&body).add(number, &mut self.memory.record);
+    fn new_node(&mut self, like: Place, above: usize, body: Vec<u8>) -> Result<usize, Stop> {
+        let page = self.store.take_page()?;
+        self.memory.taken.push(page);
+        let latched = self.store.pager.new_page(page)?;
+        let at = self.add(latched, Place { page, ..like }, Some(above));
+        Change::Body(&body).add(page, &mut self.memory.record);
         self.pages[at].body = Some(body);
         Ok(at)
     }
@@ -328,17 +287,16 @@ impl<'a, 'm> Mini<'a, 'm> {
     /// Takes out each node that is empty, and then those above that are empty by that. An empty root is
     /// a leaf.
     pub fn prune(&mut self) -> Result<(), Stop> {
-        let levels = self.pages.iter().map(|it| it.level);
+        let levels = self.pages.iter().map(|it| it.place.level);
         for level in 0..=levels.max().unwrap_or(0) {
             for at in 0..self.pages.len() {
-                let it = &self.pages[at];
-                if it.level != level || self.body(at).len() > 1 {
+                let Latched { place, above, .. } = self.pages[at];
+                if place.level != level || self.body(at).len() > 1 {
                     continue;
                 }
-                if it.number != ROOT {
-                    let (low, number) = (it.low, it.number);
-                    self.remove_child(it.above.ok_or(Stop::Above)?, low);
-                    self.memory.freed.push(number);
+                if place.page != ROOT {
+                    self.remove_child(above.ok_or(Stop::Above)?, place.low);
+                    self.memory.freed.push(place.page);
                 } else if level > 0 {
                     self.change(at, Change::Body(&[0]));
                 }
@@ -358,37 +316,10 @@ impl<'a, 'm> Mini<'a, 'm> {
         }
     }
 
-    /// Notes in the maps which pages were taken and freed.
-    fn note_space(&mut self) -> Result<()> {
-        let of_map = pages_of_map(self.store.pager.config().page_size);
-        let taken = self.memory.taken.iter().map(|page| (*page, true));
-        let freed = self.memory.freed.iter().map(|page| (*page, false));
-        let mut changes: Vec<_> = taken.chain(freed).collect();
-        changes.sort_by_key(|(page, is_taken)| (*page, !is_taken));
-        for (page, is_taken) in changes {
-            let map = page / of_map * of_map;
-            if self.pages.last().is_none_or(|it| it.number != map) {
-                let latched = self.store.pager.write(map)?;
-                self.add(latched, map, MAP, (0, None), None);
-            }
-            let (at, bit) = (self.pages.len() - 1, page - map);
-            let change = if is_taken {
-                Change::Use(bit)
-            } else {
-                Change::Free(bit)
-            };
-            self.change(at, change);
-        }
-        Ok(())
-    }
-
     /// Logs what changes as one record, and then makes the changes. Gives the LSN up to which the log
     /// has them.
     pub fn publish(&mut self) -> Result<u64, Stop> {
         let log = self.store.log();
-        if !self.memory.taken.is_empty() || !self.memory.freed.is_empty() {
-            self.note_space()?;
-        }
         if self.memory.record.is_empty() {
             return Ok(log.end() - 1);
         }
@@ -409,25 +340,27 @@ impl<'a, 'm> Mini<'a, 'm> {
     }
 }
 
-impl Drop for Mini<'_, '_> {
+impl Drop for Mini<'_> {
     fn drop(&mut self) {
-        let Mini {
-            store,
-            memory,
-            pages,
-            ..
-        } = self;
         if thread::panicking() && self.gate.is_some() {
-            let _ = store.log().stop_unless(Err::<(), _>("a commit panicked"));
+            let failed = Err::<(), _>("a commit panicked");
+            let _ = self.store.log().stop_unless(failed);
         }
+        let (mut memory, mut pages) = (mem::take(&mut self.memory), mem::take(&mut self.pages));
         memory
             .bodies
             .extend(pages.iter_mut().filter_map(|it| it.body.take()));
-        let mut pages = mem::take(pages);
         pages.clear();
         // No page is left, and so none of the lifetime: the memory stays.
         memory.pages = pages.into_iter().map(|_| unreachable!()).collect();
-        store.give_back(self.lsn, &mut memory.taken, &mut memory.freed);
+        match self.lsn {
+            Some(lsn) => self.store.free_by(lsn, &mut memory.freed),
+            None => self.store.give_back(&mut memory.taken),
+        }
+        memory.taken.clear();
+        memory.freed.clear();
         memory.record.clear();
+        // Once the thread's own objects are gone, the memory is, too.
+        let _ = KEPT.try_with(|kept| kept.set(memory));
     }
 }

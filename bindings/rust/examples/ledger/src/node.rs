@@ -87,12 +87,27 @@ impl<'a> Node<'a> {
         self.0.get(place.start + HEAD..place.end)
     }
 
-    /// The first key of the child that has a key, its page, and the first key of the next child. All
-    /// entries of an inner node are of one size.
+    /// The entries of an inner node, which are of one size. A leaf has none of them.
+    fn of_children(self) -> &'a [[u8; CHILD]] {
+        match self
+            .0
+            .split_first()
+            .map(|(level, rest)| (level, rest.as_chunks()))
+        {
+            Some((1.., (entries, []))) => entries,
+            _ => &[],
+        }
+    }
+
+    /// The children, each with its first key.
+    pub fn children(self) -> impl Iterator<Item = (u64, u64)> {
+        let entries = self.of_children().iter();
+        entries.map(|it| (word(it, 0), word(it, HEAD)))
+    }
+
+    /// The first key of the child that has a key, its page, and the first key of the next child.
     pub fn child(self, key: u64) -> Option<(u64, u64, Option<u64>)> {
-        let (entries, []) = self.0.get(1..)?.as_chunks::<CHILD>() else {
-            return None;
-        };
+        let entries = self.of_children();
         let next = entries.partition_point(|it| word(it, 0) <= key);
         let own = entries.get(next.checked_sub(1)?)?;
         let first_of_next = entries.get(next).map(|it| word(it, 0));

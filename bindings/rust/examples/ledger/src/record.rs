@@ -7,33 +7,16 @@ use crate::node::{self, half, word};
 pub enum Change<'a> {
     /// It is this, whatever it was: redo needs no older one.
     Body(&'a [u8]),
-    /// Of a node: the key has this value.
+    /// The key has this value.
     Set(u64, &'a [u8]),
     /// The key goes.
     Delete(u64),
     /// The keys from this one on go.
     Cut(u64),
-    /// Of a map: the page of this bit is in use.
-    Use(u64),
-    /// It is free.
-    Free(u64),
 }
 
 /// A change begins with the number of the page, its kind, a key, and how many bytes follow.
 const HEAD: usize = 19;
-
-/// In a map the bits come behind the number of the store.
-const BITS: usize = 8;
-
-/// How many pages a map has, of such a size. Each map is the first of its own pages.
-pub fn pages_of_map(page_size: usize) -> u64 {
-    8 * (page_size - node::BODY - BITS) as u64
-}
-
-/// Whether a page is in use, by its map.
-pub fn is_used(map: &[u8], bit: u64) -> bool {
-    map[BITS + (bit / 8) as usize] >> (bit % 8) & 1 > 0
-}
 
 impl<'a> Change<'a> {
     /// Adds the change to a record.
@@ -43,8 +26,6 @@ impl<'a> Change<'a> {
             Change::Set(key, value) => (1, key, value),
             Change::Delete(key) => (2, key, &[][..]),
             Change::Cut(key) => (3, key, &[][..]),
-            Change::Use(bit) => (4, bit, &[][..]),
-            Change::Free(bit) => (5, bit, &[][..]),
         };
         record.extend_from_slice(&page.to_le_bytes());
         record.push(kind);
@@ -64,14 +45,12 @@ impl<'a> Change<'a> {
             1 => Change::Set(key, bytes),
             2 => Change::Delete(key),
             3 => Change::Cut(key),
-            4 => Change::Use(key),
-            5 => Change::Free(key),
             _ => return None,
         };
         Some((word(head, 0), change))
     }
 
-    /// Makes the change. None where it is not of this body.
+    /// Makes the change. None where the body is not that of a node.
     pub fn make(self, body: &mut Vec<u8>) -> Option<()> {
         let is_node = !body.is_empty();
         match self {
@@ -82,8 +61,6 @@ impl<'a> Change<'a> {
             Change::Set(key, value) if is_node => node::set(body, key, value),
             Change::Delete(key) if is_node => node::delete(body, key),
             Change::Cut(key) if is_node => node::cut(body, key),
-            Change::Use(bit) => *body.get_mut(BITS + (bit / 8) as usize)? |= 1 << (bit % 8),
-            Change::Free(bit) => *body.get_mut(BITS + (bit / 8) as usize)? &= !(1 << (bit % 8)),
             _ => return None,
         }
         Some(())

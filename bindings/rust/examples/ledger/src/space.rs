@@ -1,6 +1,7 @@
-//! Which pages are free: by maps, which are pages of bits, and by a list in memory.
-use crate::record::{is_used, pages_of_map};
+//! Which pages are free: those that the tree does not have. A start finds them by a walk over the inner
+//! nodes, and then they are kept in memory.
 use crate::store::Files;
+use crate::tree::{ROOT, misplaced, pages_below};
 use crate::{Error, Result, Store, node};
 use hojzmated::SharedPager;
 use std::collections::VecDeque;
@@ -14,24 +15,28 @@ pub struct Space {
 }
 
 impl Space {
-    /// Finds the free pages by the maps.
+    /// Finds the free pages, while nobody uses the tree.
     pub fn new(pager: &SharedPager<Files>) -> Result<Space> {
-        let (pages, of_map) = (pager.config().pages, pages_of_map(pager.config().page_size));
-        let mut free = Vec::new();
-        for map in (0..pages).step_by(of_map as usize) {
-            let page = pager.read(map)?;
-            let bits = 0..of_map.min(pages - map);
-            free.extend(
-                bits.filter(|bit| !is_used(node::body(&page), *bit))
-                    .map(|bit| map + bit),
-            );
+        let mut is_free = vec![true; pager.config().pages as usize];
+        let below = pages_below(pager, node::body(&pager.read(ROOT)?))?;
+        for page in [0, ROOT].into_iter().chain(below) {
+            match is_free.get_mut(page as usize) {
+                Some(it) => *it = false,
+                None => return misplaced(page),
+            }
         }
         // The last one is taken first.
-        free.reverse();
+        let free = (0..pager.config().pages).rev();
         Ok(Space {
-            free,
+            free: free.filter(|page| is_free[*page as usize]).collect(),
             ..Space::default()
         })
+    }
+
+    /// All pages that are free, or are so once a record is durable.
+    pub fn pages(&self) -> impl Iterator<Item = u64> {
+        let freed = self.freed.iter().map(|it| it.1);
+        self.free.iter().copied().chain(freed)
     }
 }
 
@@ -52,18 +57,19 @@ impl Store {
         }
     }
 
-    /// Pages that were taken are free again, if no record says that they are used. Those that a record
-    /// freed are so once it is durable.
-    pub(crate) fn give_back(&self, lsn: Option<u64>, taken: &mut Vec<u64>, freed: &mut Vec<u64>) {
-        if !taken.is_empty() || !freed.is_empty() {
-            let mut space = self.space.lock().unwrap();
-            match lsn {
-                Some(lsn) => space.freed.extend(freed.drain(..).map(|page| (lsn, page))),
-                None => space.free.append(taken),
-            }
+    /// Gives pages back that were taken, and that no record says to be used.
+    pub(crate) fn give_back(&self, taken: &mut Vec<u64>) {
+        if !taken.is_empty() {
+            self.space.lock().unwrap().free.append(taken);
         }
-        taken.clear();
-        freed.clear();
+    }
+
+    /// Notes pages that are free once the record with this LSN is durable.
+    pub(crate) fn free_by(&self, lsn: u64, freed: &mut Vec<u64>) {
+        if !freed.is_empty() {
+            let freed = freed.drain(..).map(|page| (lsn, page));
+            self.space.lock().unwrap().freed.extend(freed);
+        }
     }
 
     /// Drops what the freed pages have, once that is durable: before, a crash would bring them back. A

@@ -2,7 +2,7 @@
 use crate::device::Device;
 use crate::log::Log;
 use crate::node::{self, BODY, CONTENT, LSN, SUM, word};
-use crate::record::{Change, pages_of_map};
+use crate::record::Change;
 use crate::space::Space;
 use crate::tree::ROOT;
 use crate::{Error, Result, bad};
@@ -22,7 +22,7 @@ pub struct Files {
 
 impl PageIo for Files {
     fn read_page(&self, page: u64, image: &mut [u8]) -> Result<(), ReadFault> {
-        self.pages.read_at(image, page * image.len() as u64)?;
+        self.pages.read_exact_at(image, page * image.len() as u64)?;
         let (lsn, end) = (word(image, LSN), self.log.durable());
         let why = if image[SUM..CONTENT] != node::sum_of(page, image) {
             "the checksum is wrong, and the log has no image of it".into()
@@ -37,7 +37,7 @@ impl PageIo for Files {
     // RULES, log before page: the page LSN is stamped into the image as it goes out.
     fn write_page(&self, page: u64, image: &mut [u8], lsn: u64) -> io::Result<()> {
         node::stamp(page, image, lsn);
-        self.pages.write_at(image, page * image.len() as u64)
+        self.pages.write_all_at(image, page * image.len() as u64)
     }
 
     fn make_log_durable(&self, lsn: u64) -> io::Result<()> {
@@ -71,25 +71,13 @@ impl Store {
         }
         // RULES, new pages: the page file is made whole at first.
         pages.fill(count * page_size)?;
-        let (store, of_map) = (
-            RandomState::new().hash_one(page_size),
-            pages_of_map(page_size as usize),
-        );
-        for page in (0..count).step_by(of_map as usize).chain([ROOT]) {
-            let mut body = vec![0];
-            if page != ROOT {
-                body = vec![0; page_size as usize - BODY];
-                body[..8].copy_from_slice(&store.to_le_bytes());
-                Change::Use(0).make(&mut body);
-            }
-            if page == 0 {
-                Change::Use(ROOT).make(&mut body);
-            }
+        let store: u64 = RandomState::new().hash_one(page_size);
+        for (page, body) in [(0, &store.to_le_bytes()[..]), (ROOT, &[0])] {
             let mut image = vec![0; page_size as usize];
-            image[CONTENT..BODY].copy_from_slice(&node::head(0, &body));
-            image[BODY..][..body.len()].copy_from_slice(&body);
+            image[CONTENT..BODY].copy_from_slice(&node::head(0, body));
+            image[BODY..][..body.len()].copy_from_slice(body);
             node::stamp(page, &mut image, 0);
-            pages.write_at(&image, page * page_size)?;
+            pages.write_all_at(&image, page * page_size)?;
         }
         pages.sync()?;
         Log::create(log, [store, count, page_size, log_size])
@@ -114,9 +102,9 @@ impl Store {
         if size != wanted {
             return bad(format!("the page file has {size} bytes, and not {wanted}"));
         }
-        // A torn page 0 has the number, too: that never changes.
+        // Page 0 tells whose pages these are, and never changes.
         let mut head = [0; BODY + 8];
-        pages.read_at(&mut head, 0)?;
+        pages.read_exact_at(&mut head, 0)?;
         if word(&head, BODY) != store {
             return bad("the log is that of another store");
         }

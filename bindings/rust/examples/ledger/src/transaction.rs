@@ -1,5 +1,5 @@
 //! `Transaction`: steps that are committed all or not at all.
-use crate::mini::{self, Mini, Stop};
+use crate::mini::{Mini, Stop};
 use crate::{Error, MOST_VALUE, Result, Store};
 use std::cell::Cell;
 use std::ops::Range;
@@ -18,7 +18,6 @@ struct Memory {
     /// In the order of their keys.
     entries: Vec<Entry>,
     bytes: Vec<u8>,
-    of_mini: mini::Memory,
 }
 
 thread_local! {
@@ -121,7 +120,7 @@ impl Transaction<'_> {
     /// [`Error::Conflict`] where another transaction changed what this one has read;
     /// [`Error::NoRoom`]; [`Error::Pager`] and [`Error::Device`]. Nothing was changed then, but where the
     /// log failed: then the store has stopped.
-    pub fn commit(mut self) -> Result<u64> {
+    pub fn commit(self) -> Result<u64> {
         let mut height = 0;
         loop {
             match self.attempt(height) {
@@ -134,22 +133,18 @@ impl Transaction<'_> {
     }
 
     /// Commits with exclusive latches of the nodes up to this level.
-    fn attempt(&mut self, height: u8) -> Result<u64, Stop> {
-        let Memory {
-            entries,
-            bytes,
-            of_mini,
-        } = &mut self.memory;
-        let mut mini = Mini::new(self.store, of_mini, height);
+    fn attempt(&self, height: u8) -> Result<u64, Stop> {
+        let Memory { entries, bytes } = &self.memory;
+        let mut mini = Mini::new(self.store, height);
         mini.latch(entries)?;
-        for entry in entries.iter() {
+        for entry in entries {
             let seen = entry.seen.clone().map(|it| it.map(|it| &bytes[it]));
             if seen.is_some_and(|seen| seen != mini.get(entry.key)) {
                 return Err(Error::Conflict.into());
             }
         }
         mini.pass_gate();
-        for entry in entries.iter() {
+        for entry in entries {
             match &entry.change {
                 Some(Some(value)) => mini.put(entry.key, &bytes[value.clone()])?,
                 Some(None) => mini.delete(entry.key),

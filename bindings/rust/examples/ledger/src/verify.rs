@@ -1,79 +1,56 @@
-//! `Store::verify`: looks whether the tree and the maps are whole.
+//! `Store::verify`: looks whether the tree is whole, and all other pages are free.
 use crate::node::{self, Node};
-use crate::record::{is_used, pages_of_map};
-use crate::tree::{ROOT, level_of, misplaced};
-use crate::{Result, Store};
-use std::collections::BTreeSet;
-
-/// What a walk through the tree has met.
-#[derive(Default)]
-struct Found {
-    pages: BTreeSet<u64>,
-    keys: usize,
-    leaves: usize,
-}
+use crate::tree::{Place, ROOT, misplaced};
+use crate::{Result, Store, bad};
 
 impl Store {
-    /// Looks at each page, and gives their numbers in one line. Keys are in order, and in the leaf
-    /// where they are looked for. Each page that is in use is in the tree, or a map. Nobody commits
+    /// Looks at each page of the tree, and gives their numbers in one line. Keys are in order, and in the
+    /// leaf where they are looked for. Each page is at one place of the tree, or is free. Nobody commits
     /// meanwhile.
     pub fn verify(&self) -> Result<String> {
-        let mut found = Found::default();
-        self.look_below(ROOT, None, (0, None), &mut found)?;
-        let Found {
-            mut pages,
-            keys,
-            leaves,
-        } = found;
-        let (inner, mut free) = (pages.len() - leaves, 0);
-        let (all, of_map) = (
-            self.pager.config().pages,
-            pages_of_map(self.pager.config().page_size),
-        );
-        for map in (0..all).step_by(of_map as usize) {
-            pages.insert(map);
-            let bits = self.pager.read(map)?;
-            for page in map..all.min(map + of_map) {
-                if is_used(node::body(&bits), page - map) != pages.contains(&page) {
-                    return misplaced(page);
-                }
-                free += usize::from(!pages.contains(&page));
+        let mut nodes = vec![Place::of_root(&self.pager.read(ROOT)?)?];
+        let mut pages = vec![0];
+        loop {
+            let (mut keys, mut below) = (0, Vec::new());
+            for place in &nodes {
+                keys += self.look_at(*place, &mut below)?;
+                pages.push(place.page);
             }
+            if below.is_empty() {
+                let (leaves, inner) = (nodes.len(), pages.len() - 1 - nodes.len());
+                let space = self.space.lock().unwrap();
+                pages.extend(space.pages());
+                pages.sort_unstable();
+                if !pages.into_iter().eq(0..self.pager.config().pages) {
+                    return bad("a page is lost, or in two places");
+                }
+                let free = space.pages().count();
+                return Ok(format!(
+                    "{keys} keys in {leaves} leaves under {inner} nodes, {free} free pages"
+                ));
+            }
+            nodes = below;
         }
-        Ok(format!(
-            "{keys} keys in {leaves} leaves under {inner} nodes, {free} free pages"
-        ))
     }
 
-    fn look_below(
-        &self,
-        page: u64,
-        wanted: Option<u8>,
-        (low, high): (u64, Option<u64>),
-        found: &mut Found,
-    ) -> Result<()> {
-        let latched = self.pager.read(page)?;
-        let node = Node(node::body(&latched));
-        let level = level_of(page, &latched, wanted)?;
+    /// Looks at a node, adds its children, and gives how many entries it has.
+    fn look_at(&self, place: Place, below: &mut Vec<Place>) -> Result<usize> {
+        let image = self.pager.read(place.page)?;
+        place.check(&image)?;
+        let node = Node(node::body(&image));
         let keys: Vec<u64> = node.entries().map(|it| it.0).collect();
-        let is_within =
-            |key: &u64| (level > 0 || *key >= low) && high.is_none_or(|high| *key < high);
-        let is_sorted = keys.is_sorted_by(|one, next| one < next) && keys.iter().all(is_within);
-        let is_empty = keys.is_empty() && page != ROOT;
-        if is_empty || !is_sorted || !found.pages.insert(page) {
-            return misplaced(page);
+        // The first key of an inner node is 0.
+        let is_within = keys
+            .iter()
+            .skip(usize::from(place.level > 0))
+            .all(|key| place.has(*key));
+        let is_empty = keys.is_empty() && place.page != ROOT;
+        if is_empty || !is_within || !keys.is_sorted_by(|one, next| one < next) {
+            return misplaced(place.page);
         }
-        if level == 0 {
-            (found.keys, found.leaves) = (found.keys + keys.len(), found.leaves + 1);
-            return Ok(());
+        for key in keys.iter().filter(|_| place.level > 0) {
+            below.push(place.child(&image, *key)?);
         }
-        for key in keys {
-            let Some((first, child, next)) = node.child(key) else {
-                return misplaced(page);
-            };
-            let range = (first.max(low), next.or(high));
-            self.look_below(child, Some(level - 1), range, found)?;
-        }
-        Ok(())
+        Ok(keys.len())
     }
 }

@@ -1,10 +1,17 @@
-//! What the cuts cannot show: the memory that commits take, and clears and loads beside commits.
+//! What the cuts do not show, or seldom: the memory that commits take, threads beside splits, clears and
+//! loads, and starts after a kill.
+#[path = "cuts/disk.rs"]
+mod disk;
+
+use disk::device;
 use hojzmated::SharedConfig;
+use hojzmated_disk::{Disk, Fault};
 use ledger::{Device, Error, Store};
 use std::alloc::{GlobalAlloc, Layout, System};
 use std::cell::Cell;
-use std::sync::Mutex;
+use std::os::unix::fs::FileExt;
 use std::sync::atomic::{AtomicBool, Ordering};
+use std::sync::{Arc, Mutex};
 use std::{io, thread};
 
 struct Counting;
@@ -36,24 +43,27 @@ unsafe impl GlobalAlloc for Counting {
 #[global_allocator]
 static ALLOCATOR: Counting = Counting;
 
-/// A file in memory.
-struct InMemory(Mutex<Vec<u8>>);
+/// A file in memory. Clones of it are the same file.
+#[derive(Clone, Default)]
+struct InMemory(Arc<Mutex<Vec<u8>>>);
 
-impl Device for InMemory {
-    fn read_at(&self, bytes: &mut [u8], offset: u64) -> io::Result<()> {
+impl FileExt for InMemory {
+    fn read_at(&self, bytes: &mut [u8], offset: u64) -> io::Result<usize> {
         let end = offset as usize + bytes.len();
         bytes.copy_from_slice(&self.0.lock().unwrap()[offset as usize..end]);
-        Ok(())
+        Ok(bytes.len())
     }
 
-    fn write_at(&self, bytes: &[u8], offset: u64) -> io::Result<()> {
+    fn write_at(&self, bytes: &[u8], offset: u64) -> io::Result<usize> {
         let (mut file, end) = (self.0.lock().unwrap(), offset as usize + bytes.len());
         let length = file.len().max(end);
         file.resize(length, 0);
         file[offset as usize..end].copy_from_slice(bytes);
-        Ok(())
+        Ok(bytes.len())
     }
+}
 
+impl Device for InMemory {
     fn sync(&self) -> io::Result<()> {
         Ok(())
     }
@@ -82,18 +92,22 @@ fn step(store: &Store, number: u64) {
     }
 }
 
-/// A store of so many pages of 1,024 bytes on files in memory.
-fn store(pages: u64, log: u64, frames: usize) -> Store {
-    let sizes = [pages, 1024, log];
-    let [pages, log] = [(); 2].map(|()| Box::new(InMemory(Mutex::default())));
-    Store::create(&*pages, &*log, sizes).unwrap();
+/// The page file and the log of a store of so many pages of 1,024 bytes.
+fn files(pages: u64, log: u64) -> [InMemory; 2] {
+    let files = <[InMemory; 2]>::default();
+    Store::create(&files[0], &files[1], [pages, 1024, log]).unwrap();
+    files
+}
+
+fn opened([pages, log]: &[InMemory; 2], frames: usize) -> Store {
     let settings = |pages, size| SharedConfig::new(pages, size, frames);
+    let (pages, log) = (Box::new(pages.clone()), Box::new(log.clone()));
     Store::open(pages, log, settings).unwrap().0
 }
 
 #[test]
 fn commits_and_look_ups_take_no_memory() {
-    let store = store(500, 1 << 24, 500);
+    let store = opened(&files(500, 1 << 24), 500);
     let rows = (0..2_000).chain([5_000]).map(|key| (key, [7; 100]));
     store.load(rows).unwrap();
     (0..3_000).for_each(|number| step(&store, number));
@@ -107,7 +121,8 @@ fn commits_and_look_ups_take_no_memory() {
 /// loaded, and checkpoints are made: so pages are split, emptied, dropped and used again.
 #[test]
 fn a_store_is_cleared_and_loaded_beside_commits() {
-    let (store, has_ended) = (&store(500, 1 << 18, 64), &AtomicBool::new(false));
+    let store = &opened(&files(500, 1 << 18), 64);
+    let has_ended = &AtomicBool::new(false);
     thread::scope(|scope| {
         for own in 0..3 {
             scope.spawn(move || {
@@ -143,19 +158,113 @@ fn a_store_is_cleared_and_loaded_beside_commits() {
     assert!(store.verify().unwrap().ends_with("498 free pages"));
 }
 
+/// What a start takes for free is what was free before it, in trees of one, two and three levels.
 #[test]
-fn a_store_has_more_pages_than_one_map_tells() {
-    let store = store(9_000, 1 << 20, 200);
-    store.load((0..58_000).map(|key| (key, [1; 100]))).unwrap();
-    assert!(store.verify().unwrap().starts_with("58000 keys in "));
-    for key in 57_000..58_000 {
-        let mut it = store.begin();
-        it.delete(key);
-        it.put(key + 1_000, &[2; 200]).unwrap();
-        it.commit().unwrap();
+fn a_start_finds_the_free_pages() {
+    let files = files(9_000, 1 << 20);
+    for rows in [0, 5, 300, 10_000] {
+        let before = {
+            let store = opened(&files, 200);
+            store.load((0..rows).map(|key| (key, [1; 100]))).unwrap();
+            for key in 0..rows / 2 {
+                let mut it = store.begin();
+                it.delete(key);
+                it.put(key + rows, &[2; 200]).unwrap();
+                it.commit().unwrap();
+            }
+            store.checkpoint().unwrap();
+            store.verify().unwrap()
+        };
+        assert!(before.starts_with(&format!("{rows} keys in ")));
+        let store = opened(&files, 200);
+        assert_eq!(store.verify().unwrap(), before);
+        store.clear().unwrap();
+        let all = "0 keys in 1 leaves under 0 nodes, 8998 free pages";
+        assert_eq!(store.verify().unwrap(), all);
     }
-    assert!(store.verify().unwrap().starts_with("58000 keys in "));
-    store.clear().unwrap();
-    let all = "0 keys in 1 leaves under 0 nodes, 8997 free pages";
-    assert_eq!(store.verify().unwrap(), all);
+}
+
+/// Threads look for rows that are always there, while others put rows beside them and take them out
+/// again: so leaves are split, and emptied.
+#[test]
+fn rows_are_found_beside_splits() {
+    let store = &opened(&files(500, 1 << 20), 400);
+    let (rows, has_ended) = (40, &AtomicBool::new(false));
+    store.load((0..rows).map(|at| (at * 10, [1; 100]))).unwrap();
+    thread::scope(|scope| {
+        let change = move |own: u64| {
+            for turn in 0..2_000 {
+                let first = (turn * 7 + own) % rows * 10;
+                let mut it = store.begin();
+                for key in first + 1..first + 7 {
+                    match turn / rows % 2 {
+                        0 => it.put(key, &[2; 200]).unwrap(),
+                        _ => it.delete(key),
+                    }
+                }
+                it.commit().unwrap();
+            }
+        };
+        let look = |own: u64| {
+            for turn in (own..).take_while(|_| !has_ended.load(Ordering::Relaxed)) {
+                let key = turn * 7 % rows * 10;
+                assert!(store.look(key, |value| value.is_some()).unwrap());
+                let found = store.scan(key, 20).unwrap();
+                let kept = found.iter().filter(|it| it.0 % 10 == 0).map(|it| it.0);
+                let last = found.last().unwrap().0;
+                assert!(kept.eq((key..=last).step_by(10)));
+            }
+        };
+        scope.spawn(move || look(0));
+        scope.spawn(move || look(3));
+        let changing = [0, 20].map(|own| scope.spawn(move || change(own)));
+        let done = changing.map(|it| it.join());
+        has_ended.store(true, Ordering::Relaxed);
+        assert!(done.iter().all(Result::is_ok));
+    });
+    store.verify().unwrap();
+}
+
+fn opened_on(disk: &Disk) -> ledger::Result<Store> {
+    let settings = |pages, size| SharedConfig::new(pages, size, 64);
+    let opened = Store::open(device(disk, "pages"), device(disk, "log"), settings);
+    opened.map(|it| it.0)
+}
+
+/// A process is killed, of whose transactions none was kept for sure. Then the power fails at each request
+/// of the next start, which could read them. There are as many as there are, from the first on.
+#[test]
+fn the_power_fails_in_a_start_after_a_kill() {
+    const ROWS: u64 = 30;
+    for cut in 1.. {
+        let disk = Disk::new(cut);
+        let (pages, log) = (device(&disk, "pages"), device(&disk, "log"));
+        Store::create(&*pages, &*log, [100, 1024, 100_000]).unwrap();
+        let store = opened_on(&disk).unwrap();
+        store
+            .load((0..4 * ROWS).map(|key| (key, [1; 200])))
+            .unwrap();
+        store.checkpoint().unwrap();
+        // Each is of another leaf.
+        for row in 0..ROWS {
+            let mut it = store.begin();
+            it.put(4 * row, &[2; 200]).unwrap();
+            it.commit().unwrap();
+        }
+        drop(store);
+        disk.set_fault(Some(Fault::Cut(cut)));
+        let started = opened_on(&disk);
+        if !disk.is_off() {
+            started.unwrap();
+            assert!(cut > 4 * ROWS, "{cut}");
+            break;
+        }
+        disk.lose_power();
+        disk.set_fault(None);
+        let store = opened_on(&disk).unwrap();
+        store.verify().unwrap();
+        let is_made = |row: u64| store.get(4 * row).unwrap() == Some(vec![2; 200]);
+        let made = (0..ROWS).take_while(|row| is_made(*row)).count() as u64;
+        assert!((made..ROWS).all(|row| !is_made(row)), "at cut {cut}");
+    }
 }

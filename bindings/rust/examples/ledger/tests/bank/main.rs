@@ -3,7 +3,7 @@ mod bank;
 
 use bank::{Client, Random};
 use hojzmated::SharedConfig;
-use ledger::{DiskFile, Store};
+use ledger::{Device, Store};
 use std::collections::HashMap;
 use std::fs::{self, File, TryLockError};
 use std::hint::black_box;
@@ -14,7 +14,7 @@ use std::process::{self, ExitCode};
 use std::sync::Mutex;
 use std::sync::atomic::{AtomicBool, Ordering};
 use std::time::{Duration, Instant};
-use std::{env, error, thread};
+use std::{env, error, io, thread};
 
 const USAGE: &str = "\
 usage: ledger load FOLDER [--accounts N] [--pages N] [--log KIB] [--frames N]
@@ -27,6 +27,29 @@ const CLIENTS: u64 = 14;
 
 /// Why it ends, in one line.
 type Done<T = ()> = Result<T, Box<dyn error::Error + Send + Sync>>;
+
+/// A file whose syncs are left out, to see what they cost.
+struct Unsynced(File);
+
+impl FileExt for Unsynced {
+    fn read_at(&self, bytes: &mut [u8], offset: u64) -> io::Result<usize> {
+        self.0.read_at(bytes, offset)
+    }
+
+    fn write_at(&self, bytes: &[u8], offset: u64) -> io::Result<usize> {
+        self.0.write_at(bytes, offset)
+    }
+}
+
+impl Device for Unsynced {
+    fn sync(&self) -> io::Result<()> {
+        Ok(())
+    }
+
+    fn size(&self) -> io::Result<u64> {
+        self.0.size()
+    }
+}
 
 struct Settings {
     folder: PathBuf,
@@ -56,14 +79,17 @@ impl Settings {
     }
 
     /// The page file and the log, which are this process's alone as long as it runs.
-    fn files(&self, is_new: bool) -> Done<[Box<DiskFile>; 2]> {
+    fn files(&self, is_new: bool) -> Done<[Box<dyn Device>; 2]> {
         let (pages, log) = (self.file("pages", is_new)?, self.file("log", is_new)?);
         match log.try_lock() {
             Err(TryLockError::WouldBlock) => return Err("another process has the store".into()),
             locked => locked?,
         }
         let is_synced = self.number("--sync", 1) != 0;
-        Ok([pages, log].map(|file| Box::new(DiskFile { file, is_synced })))
+        Ok([pages, log].map(|file| match is_synced {
+            true => Box::new(file) as Box<dyn Device>,
+            false => Box::new(Unsynced(file)),
+        }))
     }
 
     fn open(&self) -> Done<Store> {

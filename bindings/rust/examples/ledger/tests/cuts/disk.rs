@@ -12,15 +12,17 @@ pub fn device(disk: &Disk, name: &str) -> Box<OnDisk> {
     Box::new(OnDisk(disk.file(name)))
 }
 
+impl FileExt for OnDisk {
+    fn read_at(&self, bytes: &mut [u8], offset: u64) -> io::Result<usize> {
+        self.0.read_at(bytes, offset)
+    }
+
+    fn write_at(&self, bytes: &[u8], offset: u64) -> io::Result<usize> {
+        self.0.write_at(bytes, offset)
+    }
+}
+
 impl Device for OnDisk {
-    fn read_at(&self, bytes: &mut [u8], offset: u64) -> io::Result<()> {
-        self.0.read_exact_at(bytes, offset)
-    }
-
-    fn write_at(&self, bytes: &[u8], offset: u64) -> io::Result<()> {
-        self.0.write_all_at(bytes, offset)
-    }
-
     fn sync(&self) -> io::Result<()> {
         self.0.sync_data()
     }
