@@ -9,6 +9,7 @@ mod bank;
 mod disk;
 mod loads;
 mod run;
+mod spread;
 mod threads;
 
 use bank::Random;
@@ -19,7 +20,7 @@ use std::sync::mpsc::{RecvTimeoutError, Sender, channel};
 use std::thread;
 use std::time::Duration;
 
-/// A run of threads takes a part of a second.
+/// A run takes a part of a second.
 const LONGEST: Duration = Duration::from_secs(60);
 
 #[derive(Default)]
@@ -48,6 +49,7 @@ impl Tally {
         if self.is_enough() {
             return T::default();
         }
+        let _ends = in_time(name.into());
         let why = match catch_unwind(work) {
             Ok(Ok(given)) => {
                 self.passed += 1;
@@ -104,7 +106,7 @@ impl Tally {
     }
 }
 
-/// Ends the process where what this gives is not dropped in time, as threads may wait for each other.
+/// Ends the process where what this gives is not dropped in time, as a thread may wait for ever.
 fn in_time(name: String) -> Sender<()> {
     let (ends, has_ended) = channel();
     thread::spawn(move || {
@@ -143,7 +145,6 @@ fn main() -> ExitCode {
         (["threads", ..], [seed, runs]) => {
             for seed in *seed..seed + runs {
                 let name = format!("seed {seed}, four threads");
-                let _ends = in_time(name.clone());
                 tally.tried(&name, || threads::run(seed));
             }
         }
