@@ -1,7 +1,7 @@
 //! `Disk`: its files, its power, and the requests that fail.
 use crate::file::{Change, Content};
 use crate::random::Random;
-use crate::{DiskFile, DiskPages};
+use crate::{DiskFile, DiskPages, SECTOR};
 use std::sync::{Arc, Mutex, MutexGuard, PoisonError};
 use std::time::Duration;
 use std::{io, thread};
@@ -46,6 +46,7 @@ struct State {
     failures: u64,
     is_off: bool,
     longest_sync: Duration,
+    sector: usize,
     random: Random,
 }
 
@@ -64,6 +65,7 @@ impl Disk {
             failures: 0,
             is_off: false,
             longest_sync: Duration::ZERO,
+            sector: SECTOR,
             random: Random(seed),
         })))
     }
@@ -101,6 +103,12 @@ impl Disk {
         self.state().longest_sync = longest;
     }
 
+    /// Has the disk keep so many bytes whole, from each multiple of them on, as some disks do with 4,096: for
+    /// engines that do not mend torn pages. 0 counts as 1.
+    pub fn keep_whole(&self, bytes: usize) {
+        self.state().sector = bytes.max(1);
+    }
+
     /// The requests since the fault was set.
     pub fn counts(&self) -> Counts {
         self.state().counts
@@ -119,8 +127,15 @@ impl Disk {
     /// The power fails, if it has not yet, and is there again. Of what was not synced some is lost.
     pub fn lose_power(&self) {
         let mut state = self.state();
-        let State { files, random, .. } = &mut *state;
-        files.iter_mut().for_each(|file| file.lose_power(random));
+        let State {
+            files,
+            random,
+            sector,
+            ..
+        } = &mut *state;
+        for file in files {
+            file.lose_power(*sector, random);
+        }
         state.is_off = false;
     }
 
@@ -159,10 +174,15 @@ impl Disk {
         let mut state = self.state();
         let was_off = state.is_off;
         let fails = state.request(|it| &mut it.writes, Fault::Write);
-        let State { files, random, .. } = &mut *state;
+        let State {
+            files,
+            random,
+            sector,
+            ..
+        } = &mut *state;
         match (fails, was_off) {
             (false, _) => files[file].change(change),
-            (true, false) => files[file].tear(&change, random),
+            (true, false) => files[file].tear(&change, *sector, random),
             (true, true) => {}
         }
         if fails { Err(state.error()) } else { Ok(()) }

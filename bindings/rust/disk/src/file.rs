@@ -4,7 +4,8 @@ use crate::random::Random;
 use std::os::unix::fs::FileExt;
 use std::{io, mem};
 
-/// The bytes that a disk keeps whole: a write is torn between two such sectors, and not within one.
+/// The bytes that a disk keeps whole, unless it is [told otherwise](Disk::keep_whole): a write is torn between
+/// two such sectors, and not within one.
 pub const SECTOR: usize = 512;
 
 /// A file of a [`Disk`], which is used as one of the system. Clones of it are the same file.
@@ -44,13 +45,13 @@ impl Change {
     }
 
     /// The pieces that each come whole or not at all.
-    fn sectors(&self) -> Vec<Change> {
+    fn sectors(&self, sector: usize) -> Vec<Change> {
         let Change::Bytes(at, bytes) = self else {
             return vec![self.clone()];
         };
         let (mut pieces, mut at, mut rest) = (Vec::new(), *at, &bytes[..]);
         while !rest.is_empty() {
-            let (piece, more) = rest.split_at(rest.len().min(SECTOR - at % SECTOR));
+            let (piece, more) = rest.split_at(rest.len().min(sector - at % sector));
             pieces.push(Change::Bytes(at, piece.to_vec()));
             (at, rest) = (at + piece.len(), more);
         }
@@ -58,8 +59,8 @@ impl Change {
     }
 
     /// The first pieces of it: none, some or all.
-    fn torn(&self, random: &mut Random) -> Vec<Change> {
-        let mut pieces = self.sectors();
+    fn torn(&self, sector: usize, random: &mut Random) -> Vec<Change> {
+        let mut pieces = self.sectors(sector);
         pieces.truncate(random.below(pieces.len() + 1));
         pieces
     }
@@ -72,8 +73,8 @@ impl Content {
     }
 
     /// A change that fails: some of it may have come.
-    pub(crate) fn tear(&mut self, change: &Change, random: &mut Random) {
-        for piece in change.torn(random) {
+    pub(crate) fn tear(&mut self, change: &Change, sector: usize, random: &mut Random) {
+        for piece in change.torn(sector, random) {
             self.change(piece);
         }
     }
@@ -100,7 +101,7 @@ impl Content {
     }
 
     /// Of what was not synced some is kept: nothing, all, what came first, or any sectors in any order.
-    pub(crate) fn lose_power(&mut self, random: &mut Random) {
+    pub(crate) fn lose_power(&mut self, sector: usize, random: &mut Random) {
         self.before = self.changes();
         let mut changes = mem::take(&mut self.waiting);
         match random.below(6) {
@@ -109,10 +110,11 @@ impl Content {
             2 => {
                 changes.truncate(random.below(changes.len() + 1));
                 let last = changes.pop();
-                changes.extend(last.into_iter().flat_map(|it| it.torn(random)));
+                changes.extend(last.into_iter().flat_map(|it| it.torn(sector, random)));
             }
             odds => {
-                changes = changes.iter().flat_map(Change::sectors).collect();
+                let pieces = changes.iter().flat_map(|it| it.sectors(sector));
+                changes = pieces.collect();
                 changes.retain(|_| random.below(8) < 2 * odds - 5);
                 for at in (1..changes.len()).rev() {
                     changes.swap(at, random.below(at + 1));

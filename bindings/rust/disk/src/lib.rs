@@ -44,6 +44,9 @@
 //! }
 //! ```
 //!
+//! The example `preload` is the same for an engine in C, or whatever calls the system for its files: a
+//! library that is loaded before the system's.
+//!
 //! The same requests and the same seed have the same outcome: so a failure that a seed and a [`Fault`]
 //! name can be looked at again.
 #![deny(missing_docs)]

@@ -60,6 +60,24 @@ fn of_what_was_not_synced_each_set_of_sectors_may_stay() {
     assert_eq!(found.len(), 16, "{found:?}");
 }
 
+// A disk of larger sectors keeps or loses both of two, also of a write at which the power fails.
+#[test]
+fn what_is_kept_whole_may_be_more() {
+    let mut found = BTreeSet::new();
+    for seed in 0..400 {
+        let (disk, file) = disk(seed);
+        disk.keep_whole(2 * SECTOR);
+        if seed % 2 == 0 {
+            disk.set_fault(Some(Fault::Cut(1)));
+        }
+        assert_eq!(file.write_all_at(&[1; SIZE], 0).is_err(), disk.is_off());
+        disk.lose_power();
+        found.insert(sectors(&file));
+    }
+    let wanted = [[0, 0, 0, 0], [0, 0, 1, 1], [1, 1, 0, 0], [1; 4]];
+    assert_eq!(found, wanted.map(Vec::from).into());
+}
+
 #[test]
 fn writes_to_one_place_may_come_in_any_order() {
     let mut found = BTreeSet::new();
