@@ -98,7 +98,7 @@ impl Disk {
         (state.fault, state.failures, state.counts) = (fault, 0, Counts::default());
     }
 
-    /// Has each sync take up to so long, in which other requests go on.
+    /// Has each sync take up to so long, in which other requests go on. It counts as a request when it ends.
     pub fn slow_syncs(&self, longest: Duration) {
         self.state().longest_sync = longest;
     }
@@ -190,14 +190,6 @@ impl Disk {
 
     pub(crate) fn sync(&self, file: usize) -> io::Result<()> {
         let mut state = self.state();
-        let was_off = state.is_off;
-        if state.request(|it| &mut it.syncs, Fault::Sync) {
-            if !was_off && !state.is_off {
-                let State { files, random, .. } = &mut *state;
-                files[file].fail_to_sync(random);
-            }
-            return Err(state.error());
-        }
         let changes = state.files[file].changes();
         if !state.longest_sync.is_zero() {
             let most = state.longest_sync.as_micros() as usize;
@@ -205,9 +197,15 @@ impl Disk {
             drop(state);
             thread::sleep(rest);
             state = self.state();
-            if state.is_off {
-                return Err(state.error());
+        }
+        // It is counted as it ends: so others go on until it fails, or the power does.
+        let was_off = state.is_off;
+        if state.request(|it| &mut it.syncs, Fault::Sync) {
+            if !was_off && !state.is_off {
+                let State { files, random, .. } = &mut *state;
+                files[file].fail_to_sync(changes, random);
             }
+            return Err(state.error());
         }
         state.files[file].sync(changes);
         Ok(())

@@ -93,11 +93,15 @@ impl Content {
         self.before += count;
     }
 
-    /// A sync that fails: half of the changes are seen, and no later sync keeps them.
-    pub(crate) fn fail_to_sync(&mut self, random: &mut Random) {
-        let changes = self.changes();
-        self.waiting.retain(|_| random.below(2) == 0);
-        self.before = changes - self.waiting.len();
+    /// A sync of the first so many changes that fails: half of them are seen, and no later sync keeps them.
+    pub(crate) fn fail_to_sync(&mut self, changes: usize, random: &mut Random) {
+        let (all, mut count) = (self.changes(), changes.saturating_sub(self.before));
+        self.waiting.retain(|_| {
+            let is_later = count == 0;
+            count -= usize::from(!is_later);
+            is_later || random.below(2) == 0
+        });
+        self.before = all - self.waiting.len();
     }
 
     /// Of what was not synced some is kept: nothing, all, what came first, or any sectors in any order.

@@ -3,6 +3,7 @@
 use crate::threads::{Acks, THREADS, Work};
 use ledger::{Error, Result, Store};
 use std::sync::atomic::{AtomicU64, Ordering};
+use std::thread;
 use std::time::Duration;
 
 pub const WORK: Work = Work {
@@ -52,13 +53,17 @@ fn made(store: &Store, thread: usize) -> Result<u64> {
     counts.try_fold(0, |most, count| Ok(most.max(count?)))
 }
 
-/// Each transaction changes one key. Of the first thread nobody waits for them.
-fn work(store: &Store, thread: usize, _seed: u64, ack: &AtomicU64) -> Result<()> {
-    for count in made(store, thread)? + 1.. {
+/// Each transaction changes one key. Of the first thread nobody waits for them, and the last waits at
+/// once. The others do so later, when a checkpoint may have begun.
+fn work(store: &Store, number: usize, _seed: u64, ack: &AtomicU64) -> Result<()> {
+    for count in made(store, number)? + 1.. {
         let mut it = store.begin();
-        it.put(key_of(thread, count), &value_of(count))?;
+        it.put(key_of(number, count), &value_of(count))?;
         let lsn = it.commit()?;
-        if thread > 0 {
+        if number > 0 {
+            if number + 1 < THREADS {
+                thread::sleep(Duration::from_micros(count * 37 % 400));
+            }
             store.make_durable(lsn)?;
             ack.store(count, Ordering::Relaxed);
         }
