@@ -4,11 +4,13 @@
 //!     cargo build --release --example preload
 //!     LD_PRELOAD=target/release/examples/libpreload.so HOJZMATED_DISK="7 300 pages log" ./engine
 //!
-//! The words are a seed, the number of a request, and paths. A file that the process opens by one of these
-//! paths is on a [`Disk`] from then on: what it has, and what `pread`, `pwrite`, `fdatasync` and
-//! `ftruncate` do to it. At the request of that number, counted from the last such file on, the power
+//! The words are a seed, the number of a request, and paths. A file that the process opens by `open` and
+//! one of these paths is on a [`Disk`] from then on: what it has, and what `pread`, `pwrite`, `fdatasync`
+//! and `ftruncate` do to it. At the request of that number, counted from the last such file on, the power
 //! fails: the files of the system get what is left, and the process ends with status 0. The disk keeps
-//! 4,096 bytes whole. Where the process ends by itself, the files stay as they were.
+//! 4,096 bytes whole. Where the process ends by itself, the files stay as they were. It is for Linux with
+//! the C library of GNU.
+#![cfg(all(target_os = "linux", target_env = "gnu"))]
 use hojzmated_disk::{Disk, DiskFile, Fault};
 use std::ffi::{CStr, c_char, c_int, c_uint, c_void};
 use std::fs::File;
