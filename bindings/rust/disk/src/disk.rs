@@ -11,6 +11,8 @@ use std::{io, thread};
 pub enum Fault {
     /// The power fails at this request of any kind.
     Cut(u64),
+    /// The power fails at this sync.
+    CutAtSync(u64),
     /// The process is killed at this request of any kind, and soon after its next start the power fails:
     /// see [`Disk::come_back`].
     Kill(u64),
@@ -225,11 +227,14 @@ impl State {
     fn request(&mut self, of_kind: fn(&mut Counts) -> &mut u64, kind: fn(u64) -> Fault) -> bool {
         self.counts.all += 1;
         *of_kind(&mut self.counts) += 1;
-        let number = *of_kind(&mut self.counts);
-        let ends = [Fault::Cut(self.counts.all), Fault::Kill(self.counts.all)];
-        let ends = self.fault.is_some_and(|it| ends.contains(&it));
+        let kind = kind(*of_kind(&mut self.counts));
+        let ends = match self.fault {
+            Some(Fault::Cut(number) | Fault::Kill(number)) => number == self.counts.all,
+            Some(Fault::CutAtSync(number)) => kind == Fault::Sync(number),
+            _ => false,
+        };
         self.is_off |= ends;
-        let fails = self.fault == Some(kind(number));
+        let fails = self.fault == Some(kind);
         self.failures += u64::from(ends || fails);
         fails || self.is_off
     }

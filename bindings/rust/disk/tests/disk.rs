@@ -203,6 +203,24 @@ fn a_fault_is_of_its_kind_and_comes_once() {
 }
 
 #[test]
+fn the_power_fails_at_a_sync_once() {
+    let (disk, file) = disk(7);
+    disk.set_fault(Some(Fault::CutAtSync(2)));
+    file.write_all_at(&[1; SIZE], 0).unwrap();
+    file.sync_data().unwrap();
+    file.write_all_at(&[2; SIZE], 0).unwrap();
+    file.sync_data().unwrap_err();
+    file.write_all_at(&[3; SIZE], 0).unwrap_err();
+    assert_eq!((disk.is_off(), disk.failures()), (true, 1));
+    disk.lose_power();
+    assert!(sectors(&file).iter().all(|it| [1, 2].contains(it)));
+    file.write_all_at(&[4; SIZE], 0).unwrap();
+    file.sync_data().unwrap();
+    disk.lose_power();
+    assert_eq!(sectors(&file), [4; 4]);
+}
+
+#[test]
 fn after_a_kill_the_power_fails_soon_after_the_next_start() {
     let (disk, file) = disk(7);
     disk.set_fault(Some(Fault::Kill(2)));

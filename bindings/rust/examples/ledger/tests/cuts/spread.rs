@@ -11,6 +11,7 @@ pub const WORK: Work = Work {
     work,
     check,
     rest: Duration::ZERO,
+    frames: 24,
 };
 
 /// The keys of a thread: some three are in a leaf.

@@ -24,6 +24,8 @@ pub struct Work {
     pub check: fn(&Store, &Acks) -> Result<()>,
     /// The rest between two checkpoints.
     pub rest: Duration,
+    /// With few of them, pages go out as others come.
+    pub frames: usize,
 }
 
 const TRANSFERS: Work = Work {
@@ -35,6 +37,7 @@ const TRANSFERS: Work = Work {
         bank::check(store, &known).map(drop)
     },
     rest: Duration::from_micros(500),
+    frames: 64,
 };
 
 /// Cuts the power twice. What the threads did until then is another thing each time. In half of the runs
@@ -48,12 +51,15 @@ fn cut(seed: u64, work: &Work) -> Result<()> {
     let (disk, mut random) = (Disk::new(seed), Random(seed));
     let (pages, log) = (device(&disk, "pages"), device(&disk, "log"));
     Store::create(&*pages, &*log, [500, 1024, 100_000])?;
-    (work.load)(&opened(&disk)?)?;
+    (work.load)(&opened(&disk, work)?)?;
     disk.slow_syncs(Duration::from_micros(150));
     let acks = Acks::default();
     for _ in 0..2 {
-        let store = opened(&disk)?;
-        disk.set_fault(Some(Fault::Cut(1 + random.below(600))));
+        let store = opened(&disk, work)?;
+        disk.set_fault(Some(match random.below(2) {
+            0 => Fault::Cut(1 + random.below(600)),
+            _ => Fault::CutAtSync(1 + random.below(60)),
+        }));
         side_by_side(&store, &disk, work, random.below(1 << 40), &acks)?;
         drop(store);
         if random.below(4) > 0 {
@@ -62,16 +68,16 @@ fn cut(seed: u64, work: &Work) -> Result<()> {
             disk.restart();
         }
         disk.set_fault(None);
-        let store = opened(&disk)?;
+        let store = opened(&disk, work)?;
         store.verify()?;
         (work.check)(&store, &acks)?;
     }
     Ok(())
 }
 
-fn opened(disk: &Disk) -> Result<Store> {
+fn opened(disk: &Disk, work: &Work) -> Result<Store> {
     let opened = Store::open(device(disk, "pages"), device(disk, "log"), |pages, size| {
-        SharedConfig::new(pages, size, 64)
+        SharedConfig::new(pages, size, work.frames)
     });
     opened.map(|it| it.0)
 }
