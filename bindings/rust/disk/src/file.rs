@@ -27,9 +27,9 @@ pub(crate) enum Change {
 pub(crate) struct Content {
     pub(crate) seen: Vec<u8>,
     kept: Vec<u8>,
-    /// What was changed since the last sync, and how many changes there were before.
-    waiting: Vec<Change>,
-    before: usize,
+    /// What was changed and not synced, each with its number, and how many changes there were in all.
+    waiting: Vec<(usize, Change)>,
+    changes: usize,
 }
 
 impl Change {
@@ -69,7 +69,8 @@ impl Change {
 impl Content {
     pub(crate) fn change(&mut self, change: Change) {
         change.make(&mut self.seen);
-        self.waiting.push(change);
+        self.waiting.push((self.changes, change));
+        self.changes += 1;
     }
 
     /// A change that fails: some of it may have come.
@@ -81,33 +82,26 @@ impl Content {
 
     /// How many changes there were.
     pub(crate) fn changes(&self) -> usize {
-        self.before + self.waiting.len()
+        self.changes
     }
 
-    /// Keeps the first so many changes of all that there were.
+    /// Keeps the first so many changes of all that there were, but for those that are lost.
     pub(crate) fn sync(&mut self, changes: usize) {
-        let count = changes.saturating_sub(self.before);
-        for change in self.waiting.drain(..count) {
+        let count = self.waiting.partition_point(|it| it.0 < changes);
+        for (_, change) in self.waiting.drain(..count) {
             change.make(&mut self.kept);
         }
-        self.before += count;
     }
 
     /// A sync of the first so many changes that fails: half of them are seen, and no later sync keeps them.
     pub(crate) fn fail_to_sync(&mut self, changes: usize, random: &mut Random) {
-        let (all, mut count) = (self.changes(), changes.saturating_sub(self.before));
-        self.waiting.retain(|_| {
-            let is_later = count == 0;
-            count -= usize::from(!is_later);
-            is_later || random.below(2) == 0
-        });
-        self.before = all - self.waiting.len();
+        self.waiting.retain(|it| it.0 >= changes || random.below(2) == 0);
     }
 
     /// Of what was not synced some is kept: nothing, all, what came first, or any sectors in any order.
     pub(crate) fn lose_power(&mut self, sector: usize, random: &mut Random) {
-        self.before = self.changes();
-        let mut changes = mem::take(&mut self.waiting);
+        let waiting = mem::take(&mut self.waiting).into_iter();
+        let mut changes: Vec<Change> = waiting.map(|it| it.1).collect();
         match random.below(6) {
             0 => changes.clear(),
             1 => {}
@@ -171,5 +165,23 @@ impl FileExt for DiskFile {
         let change = Change::Bytes(offset as usize, bytes.to_vec());
         self.disk.change(self.number, change)?;
         Ok(bytes.len())
+    }
+}
+
+// A sync that is slow, and goes well, keeps what was written before it began, also where another one fails
+// meanwhile, but for what that has lost.
+#[test]
+fn a_sync_beside_one_that_fails() {
+    for seed in 0..50 {
+        let (mut file, mut random) = (Content::default(), Random(seed));
+        (0..4).for_each(|at| file.change(Change::Bytes(at, vec![1])));
+        let began = file.changes();
+        (4..8).for_each(|at| file.change(Change::Bytes(at, vec![1])));
+        file.fail_to_sync(file.changes(), &mut random);
+        let waits = |file: &Content| -> Vec<usize> { file.waiting.iter().map(|it| it.0).collect() };
+        let (early, late): (Vec<_>, Vec<_>) = waits(&file).into_iter().partition(|at| *at < began);
+        file.sync(began);
+        assert_eq!(waits(&file), late);
+        assert!(early.iter().all(|at| file.kept[*at] == 1));
     }
 }
