@@ -305,7 +305,11 @@ extern "C" fn read_slowly(
     missed: Missed<'static>,
     out: Place<hz_ref>,
 ) -> u16 {
-    answer(|| kept(own.read_slowly(page, missed), Held::Shared, page, out))
+    answer(|| {
+        // SAFETY: `fix_shared` has missed it, of this page of this pager.
+        let read = unsafe { own.read_slowly(page, missed) };
+        kept(read, Held::Shared, page, out)
+    })
 }
 
 #[allow(improper_ctypes_definitions)]

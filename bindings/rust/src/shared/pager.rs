@@ -270,7 +270,8 @@ impl<F: PageIo> SharedPager<F> {
     pub fn read(&self, page: u64) -> Result<PageRef<'_>, PagerError> {
         match self.read_at_once(page) {
             Ok(latched) => Ok(latched),
-            Err(missed) => self.read_slowly(page, missed),
+            // SAFETY: it was missed just now.
+            Err(missed) => unsafe { self.read_slowly(page, missed) },
         }
     }
 
@@ -284,10 +285,14 @@ impl<F: PageIo> SharedPager<F> {
     }
 
     /// The second step: it may wait, use the device, and fail.
+    ///
+    /// # Safety
+    /// What was missed is of this page of this pager: else another page's bytes are lent as so many as
+    /// this pager's pages have.
     #[doc(hidden)]
     #[cold]
     #[inline(never)]
-    pub fn read_slowly<'a>(
+    pub unsafe fn read_slowly<'a>(
         &'a self,
         page: u64,
         missed: Missed<'a>,

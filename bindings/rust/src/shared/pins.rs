@@ -17,6 +17,23 @@ pub(super) enum Joined<'a> {
 
 /// What a shared latch that was not had at once left: a seat whose word has a share more, and what that
 /// word was; or nothing. It is two words, so that it is passed on in registers.
+///
+/// It goes back to the pager that gave it, for the same page. The compiler refuses a program that goes on
+/// with another's and does not say that it answers for that:
+///
+/// ```compile_fail,E0133
+/// use hojzmated::{PageIo, PageRef, PagerError, SharedPager};
+///
+/// fn mixed<'a, F: PageIo>(
+///     one: &'a SharedPager<F>,
+///     other: &'a SharedPager<F>,
+/// ) -> Result<PageRef<'a>, PagerError> {
+///     match one.read_at_once(3) {
+///         Ok(page) => Ok(page),
+///         Err(missed) => other.read_slowly(3, missed),
+///     }
+/// }
+/// ```
 #[must_use = "the share is still in the word"]
 pub struct Missed<'a> {
     seat: Option<&'a Seat>,
