@@ -37,7 +37,8 @@
  * child after fork, or of a thread that is cancelled within it; a file that was opened with O_APPEND.
  *
  * At its end a thread gives back the pages that it has. After that, as in handlers of atexit, hz_pager_fix and
- * hz_pager_new_page are refused with HZ_UNKNOWN_PASS, and flushes, checkpoints and hz_pager_free are made as before.
+ * hz_pager_new_page are refused with HZ_UNKNOWN_PASS, and flushes, checkpoints and hz_pager_free are made as before. A
+ * thread that had fixed no page until then is not refused, and nobody gives back for it what it fixes there.
  */
 #ifndef HOJZMATED_PAGER_H
 #define HOJZMATED_PAGER_H
