@@ -34,7 +34,8 @@ pub struct SharedConfig {
     pub frames: usize,
     /// The number of pools side by side, each with a lock of its own: 1 to 64, and no more than
     /// pages or frames. Of `parts` pages in a row, the first of which is a multiple of `parts`, one is
-    /// in each part; and pages that are a multiple of `parts` apart are in different ones.
+    /// in each part; and pages that are a multiple of `parts` apart are spread over the parts too. Of
+    /// some distances they are not: some dozen pages so far apart are in one part all the same.
     ///
     /// More parts let more threads work at once. Fewer parts choose victims better: each part has
     /// its share of the frames, and its victim is that of LRU-K among the pages of the part.
