@@ -32,7 +32,7 @@ struct record {
 };
 
 static struct {
-    int fd;
+    int fd, error; /* that of the first sync that failed: what it has lost no later one keeps */
     atomic_uint_fast64_t end; /* all before it is written */
     uint64_t durable;
     pthread_mutex_t lock; /* from a record to its puts: so each record before `end` is in its pages */
@@ -106,17 +106,17 @@ static int write_page(void *fd, uint64_t number, uint8_t *image, size_t size, ui
 /* One thread syncs for all that wait meanwhile. */
 static int make_log_durable(void *fd, uint64_t lsn)
 {
-    int error = 0;
     (void)fd; /* that of the pages */
     pthread_mutex_lock(&wal.syncing);
-    if (wal.durable < lsn) {
+    if (wal.durable < lsn && !wal.error) {
         uint64_t end = wal.end;
-        error = fdatasync(wal.fd) ? errno : 0;
-        if (!error)
+        wal.error = fdatasync(wal.fd) ? errno : 0;
+        if (!wal.error)
             hz_pager_mark(&pager, wal.durable = end);
     }
+    int error = wal.durable < lsn ? wal.error : 0;
     pthread_mutex_unlock(&wal.syncing);
-    return error;
+    return errno = error;
 }
 
 static int sync_pages(void *fd)
@@ -158,6 +158,7 @@ static void start(const char *folder)
     must(hz_pager_new(&config, &io, &pager), "the pager");
     wal.end = get_record(&record, 0) ? record.lsn : sizeof record;
     while (get_record(&record, wal.end) && record.lsn == wal.end + sizeof record) {
+        put_record(&record, wal.end); /* after a sync that failed it may be in the system's memory alone */
         wal.end = record.lsn; /* before its puts: a page may have to go out for the next one */
         for (int i = 0; i < 2; i++) {
             must(hz_pager_fix(&pager, record.pages[i], HZ_EXCLUSIVE, &page), "redo");
