@@ -136,7 +136,9 @@ typedef struct hz_io {
     /* Writes the image in the page's place. The image is a copy, and may be changed: the page LSN and a checksum can
      * be put into it. The log is durable as far as lsn. After an error the page is unsaved. */
     int (*write)(void *own, uint64_t page, uint8_t *image, size_t page_size, uint64_t lsn);
-    /* Makes the log durable at least as far as lsn. Where it gets further, hz_pager_mark tells the pager. */
+    /* Makes the log durable at least as far as lsn. Where it gets further, hz_pager_mark tells the pager. After an error
+     * the pager asks again, and takes a later 0 for good. So where a sync of the log failed, answer its errno from then
+     * on: what it has lost no later sync keeps. */
     int (*make_log_durable)(void *own, uint64_t lsn);
     /* Makes all writes to the device durable. */
     int (*sync)(void *own);

@@ -84,7 +84,9 @@ pub trait PageIo {
     /// Makes the log durable at least up to this LSN.
     ///
     /// # Errors
-    /// After an error nothing is written out.
+    /// After an error nothing is written out. A [`SharedPager`](crate::SharedPager) asks again, maybe within
+    /// the same call, and takes a later success for good. So where a sync of the log failed, fail from then
+    /// on: what it has lost no later sync keeps.
     fn make_log_durable(&self, lsn: u64) -> io::Result<()>;
 
     /// Makes all writes to the device durable, as by [`File::sync_data`](std::fs::File::sync_data).
