@@ -110,8 +110,7 @@ static int make_log_durable(void *fd, uint64_t lsn)
     pthread_mutex_lock(&wal.syncing);
     if (wal.durable < lsn && !wal.error) {
         uint64_t end = wal.end;
-        wal.error = fdatasync(wal.fd) ? errno : 0;
-        if (!wal.error)
+        if ((wal.error = fdatasync(wal.fd) ? errno : 0) == 0)
             hz_pager_mark(&pager, wal.durable = end);
     }
     int error = wal.durable < lsn ? wal.error : 0;

@@ -95,7 +95,8 @@ impl Content {
 
     /// A sync of the first so many changes that fails: half of them are seen, and no later sync keeps them.
     pub(crate) fn fail_to_sync(&mut self, changes: usize, random: &mut Random) {
-        self.waiting.retain(|it| it.0 >= changes || random.below(2) == 0);
+        self.waiting
+            .retain(|it| it.0 >= changes || random.below(2) == 0);
     }
 
     /// Of what was not synced some is kept: nothing, all, what came first, or any sectors in any order.
