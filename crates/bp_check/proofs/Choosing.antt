@@ -24,7 +24,7 @@ use Rattle.bp_trail.proofs.Ranges.{ranges}
 use Rattle.bp_trail.proofs.Sentences.{candidate-decides, first-victim, victimless}
 use Rattle.bp_trail.proofs.Victim.{candidate-resident}
 use Rattle.bp_check.specs.declared.spans.Span.{Span}
-use Rattle.bp_check.specs.declared.past.choice.Rank.{Rank}
+use Rattle.bp_check.specs.declared.judge.choice.Rank.{Rank}
 use Rattle.bp_check.specs.Ranks.{rank_of}
 use Rattle.bp_check.specs.Spans.{spans, spans_at, outdated}
 use Rattle.bp_check.specs.Seen.{AreSpans}

@@ -8,3 +8,5 @@ pub mod Next
 pub mod Rooms
 pub mod Judging
 pub mod Replying
+pub mod PageSteps
+pub mod Walks

@@ -1,26 +1,26 @@
 -- One lawful entry more.
-use Rattle.std.proofs.Common.{◌≡◌, ℕ, ◌+◌, ◌<◌, ◌≤◌, max, Bool, true, false, ◌||◌, ◌==◌, List, [], ◌∷◌, ◌++◌, length, take, drop, filter_map, Option, Some, None, unwrap_or, refl, sym, ap, subst, ◌∙◌, arith}
+use Rattle.std.proofs.Common.{◌≡◌, ℕ, ◌+◌, ◌<◌, ◌≤◌, max, Bool, true, false, List, [], ◌∷◌, ◌++◌, length, take, drop, filter_map, Option, Some, None, unwrap_or, refl, sym, ap, ◌∙◌, arith}
 use Rattle.std.specs.Prelude.{if◌then◌else◌, is_some}
 use Rattle.std.specs.declared.vec.Vec.{Vec}
-use Rattle.std.proofs.lemmas.Bool.{ltb-true, eqb-true}
+use Rattle.std.proofs.lemmas.Bool.{ltb-true}
 use Rattle.std.proofs.lemmas.List.{take_at}
 use Rattle.bp_trail.specs.declared.entries.Entry.{Entry}
 use Rattle.bp_trail.specs.declared.entries.Call.{Call}
 use Rattle.bp_trail.specs.declared.entries.Reply.{Reply}
 use Rattle.bp_trail.specs.Parameters.{Parameters}
 use Rattle.bp_trail.specs.Trail.{Trail}
-use Rattle.bp_trail.specs.Lists.{some}
-use Rattle.bp_trail.specs.Event.{Grant, page_of, ticks, marked, pass_given, pass_back, read_ticket_back, write_ticket_back, ticket_given, ends_well}
-use Rattle.bp_trail.specs.Passes.{passes, tickets, reads_out, writes_out, pass_of, read_ticket_of, write_ticket_of}
+use Rattle.bp_trail.specs.Event.{Grant, page_of, ticks, marked, pass_given, pass_back, read_ticket_back, write_ticket_back, ticket_given}
+use Rattle.bp_trail.specs.Passes.{passes, tickets, reads_out, pass_of, read_ticket_of, write_ticket_of}
 use Rattle.bp_trail.specs.Legal.{allowed, IsLawful, Legal}
 use Rattle.bp_trail.proofs.Lists.{total-with, greatest-with}
 use Rattle.bp_trail.proofs.Places.{out-of_page}
 use Rattle.bp_trail.proofs.Ranges.{ranges}
-use Rattle.bp_trail.proofs.Serials.{AllBelow, has_serial, numbered, out-serial}
 use Rattle.bp_trail.proofs.Events.{Event, event-of}
-use Rattle.bp_trail.proofs.Events.Event.{fix_hit, read_good, write_clean, write_dirty}
+use Rattle.bp_trail.proofs.Events.Event.{fix_hit, read_good}
 use Rattle.bp_check.specs.declared.spans.Span.{Span}
-use Rattle.bp_check.specs.Seen.{passed_on, pages_after, AreEnded, KeepsSpans, Keeps}
+use Rattle.bp_check.specs.Pages.{PageSeen, seen_at, seen_after}
+use Rattle.bp_check.specs.Seen.{passed_on, pages_after, KeepsSpans, Keeps}
+use Rattle.bp_check.proofs.PageSteps.{seen-with}
 
 -- ---- what a lawful entry names is in range
 
@@ -32,22 +32,6 @@ module _ (c : Parameters) (past : Trail) (legal : Legal c past) where
 
   pub pass-in-file : (e : Entry) → IsLawful c past e → (g : Grant) → pass_of e ≡ Some g → page_of e.call < c.pages
   pass-in-file e lawful g i = in-file e.client e.call e.reply (event-of c past e lawful) lawful.allowed g i
-
-  out-below : (n t : ℕ) (gs : List Grant) → AllBelow n gs → some (has_serial t) gs ≡ true → t < n
-  out-below n t [] below out = cc
-  out-below n t (g ∷ gs) below out = go (g.serial == t) refl (out-below n t gs below.1) out
-    where
-      go : (b : Bool) → (g.serial == t) ≡ b → (some (has_serial t) gs ≡ true → t < n) → (b || some (has_serial t) gs) ≡ true → t < n
-      go true i ih k = omega (arith, below.0, eqb-true g.serial t i)
-      go false i ih k = ih k
-
-  ends-below : (who : ℕ) (call : Call) (reply : Reply) → Event c past who call reply → (t : ℕ) → ends_well t call ≡ true → t < tickets past
-  ends-below who _ _ (write_clean u p o w) t i = subst (λ n. n < tickets past) (sym (eqb-true t u i)) (out-below (tickets past) u (writes_out past) (numbered c past legal).writes_below (out-serial who p u (writes_out past) o))
-  ends-below who _ _ (write_dirty u p o w) t i = subst (λ n. n < tickets past) (sym (eqb-true t u i)) (out-below (tickets past) u (writes_out past) (numbered c past legal).writes_below (out-serial who p u (writes_out past) o))
-  ends-below who _ _ _ t i = cc
-
-  pub end-below : (e : Entry) → IsLawful c past e → (t : ℕ) → ends_well t e.call ≡ true → t < tickets past
-  end-below e lawful t i = ends-below e.client e.call e.reply (event-of c past e lawful) t i
 
 -- ---- counts
 
@@ -69,30 +53,36 @@ counts-few f (x ∷ xs) = go (is_some (f x)) (counts-with f x xs) (counts-few f 
 pub passes-few : (past : Trail) → passes past ≤ length past
 passes-few past = counts-few pass_of past
 
+pub tickets-few : (past : Trail) → tickets past ≤ length past
+tickets-few past = counts-few (λ e. ticket_given e.reply) past
+
 -- a slice that was lent from a list of its length, and is written back
 pub lent-back : {X : Type 0} (n : ℕ) (new items : List X) → length new ≡ n → take n (new ++ drop (length new) items) ≡ new
 lent-back n new items is = take_at new (drop (length new) items) n is
 
 -- ---- all that is kept
 
-pub keeps-next : {A : Type 0} (c : Parameters) (past whole : Trail) (e : Entry) (now mark given now' mark' given' : ℕ) (out reads writes out' reads' writes' : List Grant) (pages pages' : List ℕ) (done done' : List Bool) (table table' : List (Vec Span A))
-    → Keeps c past now mark given out reads writes pages done table → IsLawful c past e → whole ≡ e ∷ past
-    → now' ≡ now + unwrap_or (ticks e.call) 0 → mark' ≡ max (unwrap_or (marked e.call) 0) mark → given' ≡ given + (if is_some (pass_of e) then 1 else 0) → length done' ≡ length done + (if is_some (ticket_given e.reply) then 1 else 0)
-    → out' ≡ passed_on (pass_of e) (pass_back e.call) out → reads' ≡ passed_on (read_ticket_of e) (read_ticket_back e.call) reads → writes' ≡ passed_on (write_ticket_of e) (write_ticket_back e.call) writes → pages' ≡ pages_after e pages
-    → (AreEnded past done → AreEnded (e ∷ past) done') → KeepsSpans c past e now pages reads table table' → length table' ≡ length table
-    → Keeps c whole now' mark' given' out' reads' writes' pages' done' table'
-keeps-next c past whole e now mark given now' mark' given' out reads writes out' reads' writes' pages pages' done done' table table' kept lawful all time marks gives as_many outs readings writings comes ends spans whole_table =
+pub keeps-next : {A : Type 0} (c : Parameters) (past whole : Trail) (e : Entry) (told now mark given begun told' now' mark' given' begun' : ℕ) (out reads writes out' reads' writes' : List Grant) (here here' : List ℕ) (pages pages' : List PageSeen) (table table' : List (Vec Span A))
+    → Keeps c past told now mark given begun out reads writes here pages table → IsLawful c past e → whole ≡ e ∷ past
+    → told' ≡ told + 1 → now' ≡ now + unwrap_or (ticks e.call) 0 → mark' ≡ max (unwrap_or (marked e.call) 0) mark → given' ≡ given + (if is_some (pass_of e) then 1 else 0) → begun' ≡ begun + (if is_some (ticket_given e.reply) then 1 else 0)
+    → out' ≡ passed_on (pass_of e) (pass_back e.call) out → reads' ≡ passed_on (read_ticket_of e) (read_ticket_back e.call) reads → writes' ≡ passed_on (write_ticket_of e) (write_ticket_back e.call) writes → here' ≡ pages_after e here
+    → ((p : ℕ) → seen_at pages' p ≡ seen_after p e (seen_at pages p)) → length pages' ≡ length pages
+    → KeepsSpans c past e now here reads table table' → length table' ≡ length table
+    → Keeps c whole told' now' mark' given' begun' out' reads' writes' here' pages' table'
+keeps-next c past whole e told now mark given begun told' now' mark' given' begun' out reads writes out' reads' writes' here here' pages pages' table table' kept lawful all more time marks gives begins outs readings writings comes states as_many spans whole_table =
     rw all record {
       legal = record { here = lawful; before = kept.legal };
+      count = omega (arith, more, kept.count);
       clock = let t = total-with (λ d. ticks d.call) e past in omega (arith, time, kept.clock, t);
       durable = marks ∙ ap (max (unwrap_or (marked e.call) 0)) kept.durable ∙ sym (greatest-with (λ d. marked d.call) e past);
       passes = gives ∙ ap (λ n. n + (if is_some (pass_of e) then 1 else 0)) kept.passes ∙ sym (counts-with pass_of e past);
-      tickets = as_many ∙ ap (λ n. n + (if is_some (ticket_given e.reply) then 1 else 0)) kept.tickets ∙ sym (counts-with (λ d. ticket_given d.reply) e past);
+      tickets = begins ∙ ap (λ n. n + (if is_some (ticket_given e.reply) then 1 else 0)) kept.tickets ∙ sym (counts-with (λ d. ticket_given d.reply) e past);
       passes_out = outs ∙ ap (passed_on (pass_of e) (pass_back e.call)) kept.passes_out;
       reads_out = readings ∙ ap (passed_on (read_ticket_of e) (read_ticket_back e.call)) kept.reads_out;
       writes_out = writings ∙ ap (passed_on (write_ticket_of e) (write_ticket_back e.call)) kept.writes_out;
       residents = comes ∙ ap (pages_after e) kept.residents;
-      ended = ends kept.ended;
+      pages = λ p. states p ∙ ap (seen_after p e) (kept.pages p) ∙ sym (seen-with c past e kept.legal lawful p);
+      state_a_page = as_many ∙ kept.state_a_page;
       spans = spans lawful kept.clock kept.residents kept.reads_out kept.one_a_page kept.spans;
       one_a_page = whole_table ∙ kept.one_a_page;
     }

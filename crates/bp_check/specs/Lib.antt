@@ -2,5 +2,6 @@
 pub mod Setups
 pub mod Verdict
 pub mod Spans
+pub mod Pages
 pub mod Seen
 pub mod Ranks

@@ -1,10 +1,10 @@
 -- What is kept of the entries so far.
-use Rattle.std.specs.Prelude.{◌≡◌, ℕ, ◌<◌, Bool, true, false, ◌==◌, List, ◌∷◌, length, Option, Some, None, slice_index_or}
+use Rattle.std.specs.Prelude.{◌≡◌, ℕ, ◌<◌, Bool, true, false, List, ◌∷◌, length, Option, None}
 use Rattle.std.specs.declared.vec.Vec.{Vec}
 use Rattle.bp_trail.specs.Parameters.{Parameters}
 use Rattle.bp_trail.specs.Trail.{Trail}
-use Rattle.bp_trail.specs.Lists.{some, and_given, without}
-use Rattle.bp_trail.specs.Event.{Grant, page_of, loaded, left, ends_well}
+use Rattle.bp_trail.specs.Lists.{and_given, without}
+use Rattle.bp_trail.specs.Event.{Grant, page_of, loaded, left}
 use Rattle.bp_trail.specs.Clock.{clock, durable}
 use Rattle.bp_trail.specs.Passes.{passes, tickets, passes_out, reads_out, writes_out}
 use Rattle.bp_trail.specs.Places.{residents}
@@ -16,6 +16,7 @@ use Rattle.bp_trail.specs.declared.entries.Reply.{Reply}
 use Rattle.bp_trail.specs.declared.entries.Reply.TheVariants.{WrongPage}
 use Rattle.bp_trail.specs.Legal.{IsLawful, Legal}
 use Rattle.bp_check.specs.declared.spans.Span.{Span}
+use Rattle.bp_check.specs.Pages.{PageSeen, seen_at, seen_of}
 use Rattle.bp_check.specs.Spans.{spans, spans_at}
 
 -- what the entries so far are seen as: they, newest first, and the parameters
@@ -34,14 +35,9 @@ pages_after e pages =
     and_given (loaded (page_of e.call) e.reply)
     (without (λ (q : ℕ). q) (left (page_of e.call) e.reply) pages)
 
--- the ticket, where it is this one
-abbrev pub is_ticket : ℕ → Option ℕ → Bool
-is_ticket t None = false
-is_ticket t (Some ended) = t == ended
-
--- by tickets, whether the write-out with it ended well
-abbrev pub AreEnded : Trail → List Bool → Type 0
-AreEnded past ended = (t : ℕ) → slice_index_or ended t false ≡ some (λ e. ends_well t e.call) past
+-- by pages, what is kept of the page
+abbrev pub ArePages : Trail → List PageSeen → Type 0
+ArePages past pages = (p : ℕ) → seen_at pages p ≡ seen_of past p
 
 -- by pages, the spans of the page's references
 abbrev pub AreSpans : {A : Type 0} → Parameters → Trail → List (Vec Span A) → Type 0
@@ -49,19 +45,21 @@ AreSpans c past table =
     (p : ℕ) → p < c.pages → spans_at table p ≡ spans c.correlated (references c past p)
 
 -- what is kept is what the entries say, and they are legal
-pub record Keeps {A : Type 0} (c : Parameters) (past : Trail) (now mark given : ℕ)
-    (out reads writes : List Grant) (pages : List ℕ) (done : List Bool)
+pub record Keeps {A : Type 0} (c : Parameters) (past : Trail) (told now mark given begun : ℕ)
+    (out reads writes : List Grant) (here : List ℕ) (states : List PageSeen)
     (table : List (Vec Span A)) : Type 0 where
   pub legal : Legal c past
+  pub count : told ≡ length past
   pub clock : now ≡ clock past
   pub durable : mark ≡ durable past
   pub passes : given ≡ passes past
+  pub tickets : begun ≡ tickets past
   pub passes_out : out ≡ passes_out past
   pub reads_out : reads ≡ reads_out past
   pub writes_out : writes ≡ writes_out past
-  pub residents : pages ≡ residents past
-  pub tickets : length done ≡ tickets past
-  pub ended : AreEnded past done
+  pub residents : here ≡ residents past
+  pub pages : ArePages past states
+  pub state_a_page : length states ≡ c.pages
   pub spans : AreSpans c past table
   pub one_a_page : length table ≡ c.pages
 

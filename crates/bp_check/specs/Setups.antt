@@ -15,3 +15,7 @@ parameters_of setup room = record {
   clients = setup.clients;
   room = room;
 }
+
+-- the same of a pool of this room
+abbrev pub with_room : Parameters → ℕ → Parameters
+with_room c room = record c { room = room }

@@ -1,9 +1,9 @@
 //! Functions of one entry: the pass or ticket that it gives or ends, the page that it loads, writes to, or has leave. Each
 //! function has the name of its definition.
-ghost use Rattle.std.specs.Prelude.{◌≡◌, ℕ, ◌==◌};
+ghost use Rattle.std.specs.Prelude.{◌≡◌};
 ghost use Rattle.bp_trail.specs.Event as event;
 ghost use Rattle.bp_trail.specs.Passes as passes;
-ghost use Rattle.bp_check.specs.Seen.{is_ticket};
+ghost use Rattle.bp_check.specs.Pages.{saves, begun};
 
 use bp_page::{Lsn, PageNo};
 use bp_trail::{Call, Entry, Grant, Reply};
@@ -137,23 +137,33 @@ pub(crate) fn write_ticket_back(call: &Call) -> Option<u64>
     }
 }
 
-/// The ticket whose write-out ends well.
-pub(crate) fn well_ended(call: &Call) -> Option<u64>
-    ensures { (t : ℕ) → event.ends_well t call.now ≡ is_ticket t result }
+/// Returns true if a write-out of the page ends well.
+pub(crate) fn saves(page: PageNo, call: &Call) -> bool
+    ensures { result ≡ saves page call.now }
 {
     match call {
-        Call::WriteEnd { ticket, good, .. } => { if *good { Some(*ticket) } else { None } }
-        _ => None,
+        Call::WriteEnd { page: of, good, .. } => *good && *of == page,
+        _ => false,
     }
 }
 
-/// Returns true if a write-out with this ticket begins.
-pub(crate) fn begins(ticket: u64, reply: &Reply) -> bool
-    ensures { result ≡ event.begins ticket reply.now }
+/// Returns true if a write-out of the page begins.
+pub(crate) fn begins_of(page: PageNo, reply: &Reply) -> bool
+    ensures { result ≡ event.begins_of page reply.now }
 {
     match reply {
-        Reply::WriteFirst { ticket: begun, .. } => *begun == ticket,
+        Reply::WriteFirst { page: of, .. } => *of == page,
         _ => false,
+    }
+}
+
+/// The page of which a write-out begins.
+pub(crate) fn begun(reply: &Reply) -> Option<PageNo>
+    ensures { result ≡ begun reply.now }
+{
+    match reply {
+        Reply::WriteFirst { page, .. } => Some(*page),
+        _ => None,
     }
 }
 

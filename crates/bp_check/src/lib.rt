@@ -1,20 +1,23 @@
-//! An independent judge of trails: `first_unlawful` says whether each entry of a list could be made after those before
-//! it and has a lawful reply, or which is the first that does not.
+//! An independent judge of trails: a `Judge` is told a trail piece by piece, and says whether each entry could be made
+//! after those before it and has a lawful reply, or which is the first that does not. `first_unlawful` judges a whole
+//! list.
 //!
 //! It follows the definitions of `bp_trail` in the order of time, and shares no code with the core. The clock, the
-//! durable mark, the counts, the passes, tickets and pages that are there, and the spans of the bursts are updated at
-//! each entry. What is asked of one page (its image, its page LSN, whether it is unsaved) is computed from the entries
-//! when it is asked.
+//! durable mark, the counts, the passes and tickets that are out, the pages that are there, the spans of the bursts, and
+//! each page's image, page LSN and whether it is unsaved are updated at each entry. No entry is kept.
 #![tactic(auto)]
 
 mod events;
 mod grants;
-mod past;
+mod images;
+mod judge;
+mod pages;
 mod residents;
-mod scans;
 mod setup;
 mod spans;
+mod told;
 mod verdict;
 
+pub use judge::Judge;
 pub use setup::Setup;
 pub use verdict::first_unlawful;

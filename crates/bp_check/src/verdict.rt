@@ -4,7 +4,7 @@ ghost use Rattle.bp_trail.specs.Legal.{Legal};
 ghost use Rattle.bp_check.specs.Setups.{parameters_of};
 ghost use Rattle.bp_check.specs.Verdict.{IsFirstUnlawful};
 
-use crate::past::Past;
+use crate::judge::Judge;
 use crate::setup::Setup;
 use bp_trail::Entry;
 use std::alloc::{AllocError, Global};
@@ -12,9 +12,7 @@ use std::alloc::{AllocError, Global};
 /// Returns the place of the first entry that is not lawful after those before it, or `None` where the entries are a
 /// legal trail. They are oldest first, from the first entry of a pool on. The room of that pool doesn't matter.
 ///
-/// It fails by want of memory alone. It takes memory for an empty list of each page of the file, and then for what is
-/// out, for the references that no purge forgot, and for an image or two at a time. An entry takes time in proportion
-/// to those before it, and a purge to the pages of the file besides.
+/// It fails by want of memory alone. Time and memory are those of a [`Judge`] that is told the list.
 pub fn first_unlawful(
     alloc: Global,
     setup: &Setup,
@@ -25,18 +23,14 @@ pub fn first_unlawful(
     ensures first { IfOk result (λ place. (room : ℕ) →
         IfSome place (IsFirstUnlawful (parameters_of setup.now room) trail.now)) }
 {
-    let Ok(mut past) = Past::new(alloc, setup, &trail[..0]) else {
+    let Ok(judge) = Judge::new(alloc, setup) else {
         return Err(AllocError);
     };
-    for place in 0..trail.len() {
-        let e = &trail[place];
-        if !past.is_lawful(alloc, e)? {
-            return Ok(Some(place));
+    match judge.go_on(alloc, trail) {
+        Ok((judge, place)) => {
+            drop(judge);
+            Ok(place)
         }
-        let Ok(next) = past.with(e, &trail[..place + 1]) else {
-            return Err(AllocError);
-        };
-        past = next;
+        Err(AllocError) => Err(AllocError),
     }
-    Ok(None)
 }

@@ -1,25 +1,21 @@
-use Rattle.std.proofs.Common.{refl, subst, reverse, take, arith}
-use Rattle.std.proofs.lemmas.List.{take_all}
+use Rattle.std.proofs.Common.{◌≡◌, ◌++◌, None, [], subst, reverse}
+use Rattle.std.specs.Prelude.{◌↔◌, IfSome}
 use Rattle.bp_trail.specs.Legal.{Legal}
-use Rattle.bp_check.specs.Setups.{parameters_of}
-use Rattle.bp_check.proofs.Judging.{first-unlawful, not-legal}
-use Rattle.bp_check.proofs.Rooms.{legal-there}
+use Rattle.bp_check.specs.Setups.{parameters_of, with_room}
+use Rattle.bp_check.specs.Verdict.{IsFirstUnlawfulAfter}
+use Rattle.bp_check.specs.Seen.{Seen}
+use Rattle.bp_check.proofs.Judging.{legal-from-nothing, legal-to-nothing, all-from-nothing}
 use Rattle.bp_check.proofs.verdict.first_unlawful.Goals as goal
 
-pub returns-then-not-branch-clause-legal : goal.returns-then-not-branch-clause-legal
-returns-then-not-branch-clause-legal c = λ room. (
-  λ is. cc,
-  λ legal. absurd (not-legal c.args.setup.now c.args.trail.now c.loop-place.place c.index-trail-place.result c.loop-place.past c.in_ok-is_lawful.field-0
-      (omega arith) c.index-trail-place.is c.loop-place.invariant.told c.in_ok-is_lawful.ensures c.if-not-branch.true room legal),
-)
+pub returns-in-Ok-go_on-clause-legal : goal.returns-in-Ok-go_on-clause-legal
+returns-in-Ok-go_on-clause-legal c = λ room.
+    let s = c.args.setup.now in
+    let said : (c.in-Ok-go_on.place ≡ None) ↔ Legal (parameters_of s room) (reverse c.args.trail.now ++ []) =
+    subst (λ (t : Seen). (c.in-Ok-go_on.place ≡ None) ↔ Legal (with_room t.parameters room) (reverse c.args.trail.now ++ t.past)) c.in-Ok.ensures (c.in-Ok-go_on.ensures.legal room) in
+    (λ none. legal-from-nothing (parameters_of s room) c.args.trail.now (said.0 none), λ legal. said.1 (legal-to-nothing (parameters_of s room) c.args.trail.now legal))
 
-pub returns-then-not-branch-clause-first : goal.returns-then-not-branch-clause-first
-returns-then-not-branch-clause-first c = λ room.
-    first-unlawful c.args.setup.now c.args.trail.now c.loop-place.place c.index-trail-place.result c.loop-place.past c.in_ok-is_lawful.field-0
-    (omega arith) c.index-trail-place.is c.loop-place.invariant.told c.in_ok-is_lawful.ensures c.if-not-branch.true room c.loop-place.invariant.legal
-
-pub returns-clause-legal : goal.returns-clause-legal
-returns-clause-legal c = λ room.
-    let p = parameters_of c.args.setup.now room in
-    let all = subst (λ es. Legal p (reverse es)) (take_all c.loop-place.place c.args.trail.now (omega arith)) (legal-there c.args.setup.now room (reverse (take c.loop-place.place c.args.trail.now)) c.loop-place.invariant.legal) in
-    (λ is. all, λ legal. refl)
+pub returns-in-Ok-go_on-clause-first : goal.returns-in-Ok-go_on-clause-first
+returns-in-Ok-go_on-clause-first c = λ room.
+    let s = c.args.setup.now in
+    all-from-nothing (parameters_of s room) c.args.trail.now c.in-Ok-go_on.place
+    (subst (λ (t : Seen). IfSome c.in-Ok-go_on.place (IsFirstUnlawfulAfter (with_room t.parameters room) t.past c.args.trail.now)) c.in-Ok.ensures (c.in-Ok-go_on.ensures.first room))
