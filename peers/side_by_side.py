@@ -1,9 +1,10 @@
 #!/usr/bin/env python3
-"""Runs `bench pool` and Berkeley DB's memory pool in turn, over the same pages; prints the ratios.
+"""Runs `bench pool` or `bench threads` and Berkeley DB's memory pool in turn, over the same pages; prints the ratios.
 
     apt-get install libdb5.3-dev           (a C compiler is needed too)
     (cd crates/bench && rt run)            builds the bench, and makes its long runs of seconds
     peers/side_by_side.py ROUNDS [ROOM ..]
+    peers/side_by_side.py threads ROUNDS
 
 For each ROOM the trail has that room and is cut when half full; ROOM 0 is a trail that is never cut, and ROOM
 `silent` one that is only counted. Each number is in fixes and unfixes a second of processor time. A ratio is of one
@@ -13,6 +14,10 @@ greatest.
 K is 2, and the correlated period is an eighth of the frames in fixes; it is told in ticks, of which there is one in 16
 fixes. Where pages are evicted a second row has no period, beside the same figures of Berkeley DB. Each pool is in its
 steady state: eight fixes for each frame come before those that count.
+
+With `threads` it measures 1, 2 and 4 threads over one pool, whose trail is only counted, and then cut as they go. Each
+number is in uses a second of the wall clock, of all threads. The peer is peers/c/bench.c with DB_THREAD, whose numbers
+are drawn in the same way.
 """
 import os
 import re
@@ -35,8 +40,22 @@ PEER = [
 ]
 
 
-def said(words, folder):
-    return subprocess.run(words, cwd=folder, check=True, capture_output=True, text=True).stdout
+# The rows of `bench threads` for each number of threads: a name, the period in ticks, and what peers/c/bench.c does
+# with how many frames.
+THREADS = (1, 2, 4)
+USES = [
+    ("fix and unfix, 64 hot pages", 32, "nothing", 64),
+    ("look, 64 hot pages", 32, "look", 64),
+    ("look, 4,096 resident pages", 32, "look", 4096),
+    ("update, 4,096 resident pages", 32, "update", 4096),
+    ("look, evictions", 32, "evict", 4096),
+    ("look, evictions", 0, "evict", 4096),
+]
+
+
+def said(words, folder, **env):
+    done = subprocess.run(words, cwd=folder, check=True, capture_output=True, text=True, env={**os.environ, **env})
+    return done.stdout
 
 
 def ours(pages, room, folder):
@@ -53,6 +72,23 @@ def theirs(mpool, folder):
     for _, *numbers, hot in PEER:
         line = said([mpool, "1", *map(str, [*numbers, 1024, hot])], folder)
         rates.append(int(line.split()[0]))
+    return rates
+
+
+def ours_in_threads(pages, kind, folder):
+    found = re.findall(r"(\d+) threads, \d+ pages, period (\d+): (\d+) a second", said([BENCH, "threads", pages, *kind], folder))
+    if [(int(threads), int(period)) for threads, period, _ in found] != [(n, use[1]) for n in THREADS for use in USES]:
+        sys.exit("side_by_side.py: `bench threads` has other rows")
+    return [int(rate) for _, _, rate in found]
+
+
+def theirs_in_threads(bench, folder):
+    """The rates of Berkeley DB's pool, each over one second."""
+    rates = []
+    for threads in THREADS:
+        for _, _, use, frames in USES:
+            line = said([bench, use, "1024", "1", str(threads)], folder, FRAMES=str(frames))
+            rates.append(int(line.split()[0]))
     return rates
 
 
@@ -73,23 +109,41 @@ def thousands(values):
     return f"{statistics.median(values) / 1000:,.0f}"
 
 
-def print_table(title, runs, peer):
+def print_table(title, runs, peer, of=None):
     print(title)
     print("| | K | Period | This pool, thousands a second | Berkeley DB | Ratio |\n|---|---|---|---|---|---|")
-    for row, (name, period, at) in enumerate(rows()):
+    for row, (name, period, at) in enumerate(of or rows()):
         mine, other = [it[row] for it in runs], [it[at] for it in peer]
         ratios = [a / b for a, b in zip(mine, other)]
         print(f"| {name} | 2 | {period:,} | {thousands(mine)} | {thousands(other)} | {spread(ratios)} |")
 
 
+def in_threads(rounds, pages, folder):
+    bench = f"{folder}/bench"
+    subprocess.run(["cc", "-std=gnu11", "-O3", "-DBERKELEY", f"{TOP}/peers/c/bench.c", "-ldb", "-lpthread", "-o", bench],
+                   check=True)
+    kinds = {"only counted": ["silent"], "cut as they go": []}
+    peer, runs = [], {title: [] for title in kinds}
+    for _ in range(rounds):
+        peer.append(theirs_in_threads(bench, folder))
+        for title, kind in kinds.items():
+            runs[title].append(ours_in_threads(pages, kind, folder))
+    names = [(f"{name}, {threads} thread{'s' * (threads > 1)}", use[0]) for threads in THREADS for name, *use in USES]
+    for title in kinds:
+        print_table(title, runs[title], peer, [(name, period, at) for at, (name, period) in enumerate(names)])
+
+
 def main():
-    rounds = int(sys.argv[1])
+    threads = sys.argv[1:2] == ["threads"]
+    rounds = int(sys.argv[1 + threads])
     rooms = [it if it == "silent" else int(it) for it in sys.argv[2:]] or [0]
     with tempfile.TemporaryDirectory(prefix="side-by-side-") as folder:
         mpool, pages = f"{folder}/mpool", f"{folder}/pages.bin"
         subprocess.run(["cc", "-O2", f"{TOP}/peers/mpool.c", "-ldb", "-o", mpool], check=True)
         with open(pages, "wb") as it:
             it.write(bytes(FILE_BYTES))
+        if threads:
+            return in_threads(rounds, pages, folder)
         runs = {room: [] for room in rooms}
         peer = []
         for _ in range(rounds):

@@ -464,8 +464,8 @@ int main(int argc, char **argv)
     if (threads < 1 || threads > (has_threads ? MOST_THREADS : 1))
         fail("so many threads do not share the pool");
     frames = asked_for("FRAMES", frames), k = (unsigned)asked_for("K", 2), period = asked_for("PERIOD", frames / 8);
-    if (frames < 256 || frames > 65536)
-        fail("FRAMES is 256 to 65536");
+    if (frames < 64 || frames > 65536)
+        fail("FRAMES is 64 to 65536");
     shape_tree();
     pages = use == TREE ? nodes() : has_evictions() ? 4 * (unsigned)frames : (unsigned)frames;
     start();
