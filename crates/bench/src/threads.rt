@@ -208,7 +208,7 @@ impl<C: Clock + Drop> Caller<C> {
     )
         ensures client { own.new.session.client ≡ own.old.session.client }
     {
-        for call in 0..CALLS_A_PART {
+        'calls: for call in 0..CALLS_A_PART {
             if call % FIXES_A_TICK == 0 {
                 let _ = pool.tick(rt, &mut own.session, 1);
             }
@@ -267,11 +267,11 @@ impl<P: Port, K: Tended, C: Clock + Drop> Worker<P, K> for Caller<C> {
         pool: &SharedPool<N, K>,
         own: &mut Own<N, P, K>,
     ) {
-        for _ in 0..self.parts_before() {
+        'before: for _ in 0..self.parts_before() {
             self.part(rt, pool, own);
         }
         self.settle();
-        for _ in rt.forever() {
+        'settles: for _ in rt.forever() {
             if self.have_settled() {
                 break;
             }
@@ -279,7 +279,7 @@ impl<P: Port, K: Tended, C: Clock + Drop> Worker<P, K> for Caller<C> {
         }
         self.begin();
         let (_, _, _, parts) = self.work;
-        for _ in 0..parts {
+        'parts: for _ in 0..parts {
             self.part(rt, pool, own);
         }
         self.end();
@@ -293,12 +293,12 @@ impl<P: Port, K: Tended, C: Clock + Drop> Worker<P, K> for Caller<C> {
         own: &mut Own<N, P, K>,
         upkeep: &mut Upkeep<N>,
     ) {
-        for _ in 0..self.parts_before() {
+        'before: for _ in 0..self.parts_before() {
             self.part(rt, pool, own);
             self.cut_trail(rt, pool, upkeep);
         }
         self.settle();
-        for _ in rt.forever() {
+        'settles: for _ in rt.forever() {
             if self.have_settled() {
                 break;
             }
@@ -306,12 +306,12 @@ impl<P: Port, K: Tended, C: Clock + Drop> Worker<P, K> for Caller<C> {
         }
         self.begin();
         let (_, _, _, parts) = self.work;
-        for _ in 0..parts {
+        'parts: for _ in 0..parts {
             self.part(rt, pool, own);
             self.cut_trail(rt, pool, upkeep);
         }
         self.end();
-        for _ in rt.forever() {
+        'ends: for _ in rt.forever() {
             if self.have_ended() {
                 break;
             }

@@ -228,10 +228,10 @@ impl Using {
     {
         let mut spare = Vec::new(alloc);
         let mut rounds = 0u64;
-        for _ in rt.forever() {
+        'rounds: for _ in rt.forever() {
             rounds = rounds.saturating_add(1);
             self.shared.wait_for_round(rt, rounds);
-            for _ in 0..CALLS_A_ROUND {
+            'calls: for _ in 0..CALLS_A_ROUND {
                 self.call(rt, pool, own);
             }
             let cut = self.cut_list(own, spare);

@@ -188,7 +188,7 @@ impl<C: Clock + Drop> Judging<C> {
         let start = Instant::now(&self.clock).ok();
         let mut judge = Judge::new(alloc, &self.setup).ok();
         let mut spare = Vec::new(alloc);
-        for _ in rt.forever() {
+        'rounds: for _ in rt.forever() {
             let is_last = self.is_over(&start) || judge.is_none();
             self.shared.begin_round(is_last);
             if !is_last {

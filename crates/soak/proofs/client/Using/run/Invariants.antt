@@ -1,0 +1,9 @@
+-- The session is that client's still.
+use Rattle.std.proofs.Common.{◌≡◌}
+use Rattle.soak.proofs.client.Using.run.Given as goal
+
+abbrev pub invariant-rounds : goal.invariant-rounds
+invariant-rounds g l = l.own.session.client ≡ l.initial.own.session.client
+
+abbrev pub invariant-calls : goal.invariant-calls
+invariant-calls g l = l.own.session.client ≡ l.initial.own.session.client
