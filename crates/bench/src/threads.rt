@@ -60,7 +60,7 @@ const ROWS: [Work; 6] = [
 ];
 
 /// A kind of pool, and how its room and the memory of its lists are kept.
-pub(crate) trait Tended: Kind {
+pub(crate) trait Tended: ListKeeper {
     fn name() -> &'static str;
 
     fn room() -> usize;
@@ -353,7 +353,11 @@ fn callers<R: Runtime<A = Global> + Clock>(
 
 /// Runs callers over a new pool, one for each port. Returns the calls that were not refused, and the time from the first
 /// begin to the last end.
-fn run<K: Tended, P: Port + Send, R: Runtime<A = Global> + Clock + Threads + Wait + Send + Sync>(
+fn run<
+    K: Kind + Tended,
+    P: Port + Send,
+    R: Runtime<A = Global> + Clock + Threads + Wait + Send + Sync,
+>(
     rt: &R,
     ports: Vec<P>,
     geometry: Geometry,
@@ -399,7 +403,7 @@ fn file_ports(
 }
 
 /// Times 1, 2 and 4 threads over a page file, at each row.
-pub(crate) fn time_threads<K: Tended>(
+pub(crate) fn time_threads<K: Kind + Tended>(
     rt: &(impl Runtime<A = Global> + Clock + Files<File = File> + Threads + Wait + Send + Sync),
     path: &str,
 ) -> Result<(), anyhow::Error> {
@@ -420,7 +424,7 @@ pub(crate) fn time_threads<K: Tended>(
 }
 
 /// Has four threads use a pool in memory for a moment, and prints how many uses were not refused.
-pub(crate) fn try_threads<K: Tended>(
+pub(crate) fn try_threads<K: Kind + Tended>(
     rt: &(impl Runtime<A = Global> + Clock + Threads + Wait + Send + Sync),
 ) -> Result<(), anyhow::Error> {
     let geometry = Geometry::new(64, SIZE)?;

@@ -124,7 +124,7 @@ impl Using {
     )
         ensures client { own.new.session.client ≡ own.old.session.client }
     {
-        let byte = self.below(256) as u8;
+        let byte = self.random.to_le_bytes()[4];
         let last = self.shared.last.fetch_add(1, Ordering::SeqCst);
         let lsn = Lsn::new(last.saturating_add(1));
         let written = pool.write_from(rt, &mut own.session, pass, 0, &[byte], lsn);

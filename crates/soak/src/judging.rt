@@ -89,7 +89,7 @@ impl<C: Clock + Drop> Judging<C> {
         };
         match passed {
             Some(passed) => {
-                self.memory.look(passed.as_secs() * 4 >= self.seconds);
+                self.memory.look(passed.as_secs().saturating_mul(4) >= self.seconds);
                 passed.as_secs() >= self.seconds
             }
             None => {
