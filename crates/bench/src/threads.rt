@@ -267,7 +267,7 @@ impl<P: Port, K: Tended, C: Clock + Drop> Worker<P, K> for Caller<C> {
         pool: &SharedPool<N, K>,
         own: &mut Own<N, P, K>,
     ) {
-        'before: for _ in 0..self.parts_before() {
+        'first_parts: for _ in 0..self.parts_before() {
             self.part(rt, pool, own);
         }
         self.settle();
@@ -293,7 +293,7 @@ impl<P: Port, K: Tended, C: Clock + Drop> Worker<P, K> for Caller<C> {
         own: &mut Own<N, P, K>,
         upkeep: &mut Upkeep<N>,
     ) {
-        'before: for _ in 0..self.parts_before() {
+        'first_parts: for _ in 0..self.parts_before() {
             self.part(rt, pool, own);
             self.cut_trail(rt, pool, upkeep);
         }

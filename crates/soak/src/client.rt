@@ -55,9 +55,10 @@ impl Deeds {
     /// Notes why a call was refused, if it was.
     pub(crate) fn note<T: Drop>(&mut self, shared: &Shared, answer: Result<T, Refusal>) {
         let Err(refusal) = answer else { return };
+        // Client 0 has to cut the trail, or to raise the mark.
+        thread::yield_now();
         if refusal == Refusal::TrailFull {
             shared.full.fetch_add(1, Ordering::SeqCst);
-            thread::yield_now();
         } else if !self.answers.count(refusal) && self.stray.is_none() {
             self.stray = Some(refusal);
         }

@@ -89,7 +89,8 @@ impl<C: Clock + Drop> Judging<C> {
         };
         match passed {
             Some(passed) => {
-                self.memory.look(passed.as_secs().saturating_mul(4) >= self.seconds);
+                self.memory
+                    .look(passed.as_secs().saturating_mul(4) >= self.seconds);
                 passed.as_secs() >= self.seconds
             }
             None => {
@@ -169,7 +170,7 @@ impl<C: Clock + Drop> Judging<C> {
             if have_arrived {
                 break;
             }
-            Parker::new().park_timeout(rt, Duration::from_millis(1));
+            Parker::new().park_timeout(rt, Duration::from_micros(100));
         }
         (judge, spare)
     }

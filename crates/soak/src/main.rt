@@ -42,7 +42,7 @@ const FRAMES: usize = 16;
 
 const PAGES: u64 = 96;
 
-const ROOM: usize = 65536;
+const ROOM: usize = 4096;
 
 /// The seconds of a run, where no argument says them.
 const SECONDS: u64 = 4;

@@ -2,8 +2,8 @@
 use Rattle.std.proofs.Common.{◌≡◌}
 use Rattle.bench.proofs.threads.CallerWorker.work.Given as goal
 
-abbrev pub invariant-before : goal.invariant-before
-invariant-before g l = l.own.session.client ≡ l.initial.own.session.client
+abbrev pub invariant-first_parts : goal.invariant-first_parts
+invariant-first_parts g l = l.own.session.client ≡ l.initial.own.session.client
 
 abbrev pub invariant-parts : goal.invariant-parts
 invariant-parts g l = l.own.session.client ≡ l.initial.own.session.client
