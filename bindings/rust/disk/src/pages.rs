@@ -25,6 +25,10 @@ impl PageIo for DiskPages {
     }
 
     fn make_log_durable(&self, _lsn: u64) -> io::Result<()> {
+        // The pager asks again after a failure, and what a failed sync has lost no later one keeps.
+        if self.log.disk.has_lost(self.log.number) {
+            return Err(io::Error::other("a sync of the log failed before"));
+        }
         self.log.sync_data()
     }
 
