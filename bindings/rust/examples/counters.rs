@@ -1,6 +1,7 @@
 //! Counters in pages, under a log: wherever this is killed, the next run has each that was logged.
 use hojzmated::{PageIo, ReadFault, SharedConfig, SharedPager};
-use std::{error::Error, fs::File, io, os::unix::fs::FileExt, sync::Mutex, thread};
+use std::sync::{Mutex, atomic::AtomicBool, atomic::Ordering::SeqCst};
+use std::{error::Error, fs::File, io, os::unix::fs::FileExt, thread};
 
 type Done = Result<(), Box<dyn Error + Send + Sync>>;
 const PAGES: u64 = 1_000;
@@ -9,6 +10,7 @@ const RECORD: u64 = 32; // a page, its new count, 0, and the LSN: where the reco
 struct Files {
     pages: File,
     log: File, // a head of the size of a record, which says from where to redo; then records
+    lost: AtomicBool, // whether a sync of the log failed
 }
 
 impl PageIo for Files {
@@ -19,7 +21,11 @@ impl PageIo for Files {
         self.pages.write_all_at(image, page * image.len() as u64)
     }
     fn make_log_durable(&self, _lsn: u64) -> io::Result<()> {
-        self.log.sync_data()
+        if self.lost.swap(true, SeqCst) {
+            return Err(io::Error::other("what a sync has lost no later one keeps"));
+        }
+        let synced = self.log.sync_data();
+        synced.inspect(|()| self.lost.store(false, SeqCst))
     }
     fn sync(&self) -> io::Result<()> {
         self.pages.sync_data()
@@ -40,11 +46,14 @@ fn main() -> Done {
     let options = File::options().read(true).write(true).create(true).clone();
     let (pages, log) = (options.open("engine.pages")?, options.open("engine.log")?);
     pages.set_len(PAGES * 4096)?;
-    let pager = &SharedPager::new(&SharedConfig::new(PAGES, 4096, 256), Files { pages, log })?;
+    let lost = false.into();
+    let files = Files { pages, log, lost };
+    let pager = &SharedPager::new(&SharedConfig::new(PAGES, 4096, 256), files)?;
     let (log, mut rec) = (&pager.io().log, [[0; 8]; 4]);
     log.read_at(&mut rec[0], 0)?;
     let mut end = u64::from_le_bytes(rec[0]).max(RECORD); // a new log has no head yet
     while log.read_at(rec.as_flattened_mut(), end)? > 0 && rec[3] == (end + RECORD).to_le_bytes() {
+        log.write_all_at(rec.as_flattened(), end)?; // a sync that failed may have lost it
         end += RECORD;
         let mut page = pager.write(u64::from_le_bytes(rec[0]))?; // it may have this count already
         page.put(0, &rec[1], end)?;
