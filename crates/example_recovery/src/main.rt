@@ -2,6 +2,9 @@
 //! other, with rubbish left in the page, then once more; and prints the rows that each page has then.
 #![tactic(auto)]
 
+mod frames;
+mod log;
+mod reading;
 mod redo;
 
 use bp_page::{Bytes, Geometry, Image, Lsn, PageNo, Refusal};

@@ -1,0 +1,182 @@
+-- What the calls of a log in a file add to its life.
+use Rattle.std.proofs.Common.{◌≡◌, inl, inr, ℕ, ◌+◌, ◌^◌, ◌<◌, ◌≤◌, Bool, true, false, not, List, [], ◌∷◌, ◌++◌, length, replicate, refl, sym, ap, subst, ◌∙◌, append_assoc, arith, length-append}
+use Rattle.std.proofs.lemmas.List.{length_push}
+use Rattle.std.specs.Prelude.{◌⊎◌, Result, Ok, Err, IfOk, OnErr}
+use Rattle.std.specs.Result.{IsErr}
+use Rattle.bp_ports.specs.Files.{Transfer, StoreSync}
+use Rattle.example_recovery.specs.declared.log.LogFile.{LogFile}
+use Rattle.example_recovery.specs.Frames.{frame, frames}
+use Rattle.example_recovery.specs.Files.{FileCall, FileDid, failed, written}
+use Rattle.example_recovery.specs.Files.FileCall.{Write, Sync}
+use Rattle.example_recovery.specs.Lives.{LogLife}
+use Rattle.example_recovery.specs.Lives.LogLife.{wiped, appended, synced as was_synced, unsynced}
+use Rattle.example_recovery.specs.LogFiles.{IsLogFile, GoesOn, Begins}
+use Rattle.example_recovery.specs.LogFiles.Wipes.{nothing, wrote, unsynced as was_unsynced}
+use Rattle.example_recovery.proofs.Lives.{frames-push}
+
+pub err-if : {T E : Type 0} (r : Result T E) (P : T → Type 0) (Q : Type 0) → IsErr r → Q → IfOk r P × OnErr r Q
+err-if (Ok x) P Q h q = absurd (cc)
+err-if (Err e) P Q h q = (tt, q)
+
+pub file-did-append : {S : Type 0} (reads writes : Transfer S) (syncs : StoreSync S) (a b c : S) (newer older : List FileCall)
+    → FileDid reads writes syncs a older b → FileDid reads writes syncs b newer c → FileDid reads writes syncs a (newer ++ older) c
+file-did-append reads writes syncs a b c [] older h k = subst (λ x. FileDid reads writes syncs a older x) (sym k) h
+file-did-append reads writes syncs a b c (call ∷ newer) older h k = (k.0, file-did-append reads writes syncs a b k.0 newer older h k.1, k.2)
+
+module _ {S : Type 0} (reads writes : Transfer S) (syncs : StoreSync S) where
+  pub weaken : (old new : LogFile S) (first : List ℕ) (start : ℕ) (calls : List FileCall) (P Q : List (List ℕ) → ℕ → Type 0)
+      → ((log : List (List ℕ)) (durable : ℕ) → P log durable → Q log durable) → GoesOn reads writes syncs old new first start calls P → GoesOn reads writes syncs old new first start calls Q
+  weaken old new first start calls P Q f g = record { more = g.more; log = g.log; durable = g.durable; did = g.did; is = g.is; is_so = f g.log g.durable g.is_so }
+
+  pub then : (old mid new : LogFile S) (first : List ℕ) (start : ℕ) (calls : List FileCall) (P Q : List (List ℕ) → ℕ → Type 0)
+      → (g : GoesOn reads writes syncs old mid first start calls P) → GoesOn reads writes syncs mid new first start (g.more ++ calls) Q → GoesOn reads writes syncs old new first start calls Q
+  then old mid new first start calls P Q g h = record {
+    more = h.more ++ g.more;
+    log = h.log;
+    durable = h.durable;
+    did = file-did-append reads writes syncs old.store mid.store new.store h.more g.more g.did h.did;
+    is = subst (λ (cs : List FileCall). IsLogFile first start cs h.log h.durable new) (sym (append_assoc h.more g.more calls)) h.is;
+    is_so = h.is_so;
+  }
+
+  module _ (first : List ℕ) (start durable : ℕ) (calls : List FileCall) (log : List (List ℕ)) (old : LogFile S) (is : IsLogFile first start calls log durable old) where
+    pub stays : (P : List (List ℕ) → ℕ → Type 0) → P log durable → GoesOn reads writes syncs old old first start calls P
+    stays P p = record { more = []; log = log; durable = durable; did = refl; is = is; is_so = p }
+
+    alive : old.is_ended ≡ false → LogLife first start true calls log durable
+    alive e = subst (λ (b : Bool). LogLife first start b calls log durable) (ap not e) is.life
+
+    pub grows : (new : LogFile S) (payload bytes : List ℕ) (good : Bool) → old.is_ended ≡ false → bytes ≡ frame old.next payload → length payload < 2 ^ 64 → old.next < 2 ^ 64
+        → old.end + length bytes ≤ old.size → writes old.store old.end bytes good new.store → not new.is_ended ≡ good → new.size ≡ old.size
+        → (new.is_ended ≡ false → (new.end ≡ old.end + length bytes) × (new.next ≡ old.next + 1))
+        → GoesOn reads writes syncs old new first start calls (λ after synced. (synced ≡ durable) × (after ≡ log ++ payload ∷ []))
+    grows new payload bytes good e is-frame short fits room gave ended size places =
+        let end = is.end e in
+        let next = is.next e in
+        let positive = is.positive in
+        let told : bytes ≡ frame (start + length log) payload = is-frame ∙ ap (λ (n : ℕ). frame n payload) next in
+        let long = ap (λ (t : List ℕ). length t) told in
+        let whole = is.size in
+        let call : writes old.store (length (frames start log)) (frame (start + length log) payload) good new.store =
+        subst (λ (n : ℕ). writes old.store n (frame (start + length log) payload) good new.store) end (subst (λ (t : List ℕ). writes old.store old.end t good new.store) told gave) in
+        let pushed = ap (λ (t : List ℕ). length t) (frames-push start log payload) ∙ length-append (frames start log) (frame (start + length log) payload) in
+        let lived : LogLife first start good (Write (length (frames start log)) (frame (start + length log) payload) good ∷ calls) (log ++ payload ∷ []) durable =
+        appended payload good (alive e) (record { positive = omega arith; fits = omega arith; size = short }) (omega arith) in
+        record {
+          more = Write (length (frames start log)) (frame (start + length log) payload) good ∷ [];
+          log = log ++ payload ∷ [];
+          durable = durable;
+          did = (old.store, refl, call);
+          is = record {
+            life = subst (λ (b : Bool). LogLife first start b (Write (length (frames start log)) (frame (start + length log) payload) good ∷ calls) (log ++ payload ∷ []) durable) (sym ended) lived;
+            positive = is.positive;
+            size = size ∙ is.size;
+            end = λ a. (let p = places a in omega (arith, p.0, pushed, long, end));
+            next = λ a. (let p = places a in omega (arith, p.1, length_push log payload, next));
+          };
+          is_so = (refl, refl);
+        }
+
+    pub syncs-well : (new : LogFile S) → old.is_ended ≡ false → syncs old.store true new.store → new.is_ended ≡ old.is_ended → new.size ≡ old.size → new.end ≡ old.end → new.next ≡ old.next
+        → GoesOn reads writes syncs old new first start calls (λ after synced. (after ≡ log) × (synced ≡ length log))
+    syncs-well new e gave ended size end next = record {
+      more = Sync true ∷ [];
+      log = log;
+      durable = length log;
+      did = (old.store, refl, gave);
+      is = record {
+        life = subst (λ (b : Bool). LogLife first start b (Sync true ∷ calls) log (length log)) (sym (ap not (ended ∙ e))) (was_synced (alive e));
+        positive = is.positive;
+        size = size ∙ is.size;
+        end = λ a. end ∙ is.end e;
+        next = λ a. next ∙ is.next e;
+      };
+      is_so = (refl, refl);
+    }
+
+    pub syncs-badly : (new : LogFile S) → old.is_ended ≡ false → syncs old.store false new.store → new.is_ended ≡ true → new.size ≡ old.size
+        → GoesOn reads writes syncs old new first start calls (λ after synced. (after ≡ log) × (synced ≡ durable))
+    syncs-badly new e gave ended size = record {
+      more = Sync false ∷ [];
+      log = log;
+      durable = durable;
+      did = (old.store, refl, gave);
+      is = record {
+        life = subst (λ (b : Bool). LogLife first start b (Sync false ∷ calls) log durable) (sym (ap not ended)) (unsynced (alive e));
+        positive = is.positive;
+        size = size ∙ is.size;
+        end = λ a. (let b = sym ended ∙ a in absurd (cc));
+        next = λ a. (let b = sym ended ∙ a in absurd (cc));
+      };
+      is_so = (refl, refl);
+    }
+
+  -- ---- a log that is begun
+
+  module _ (first head : List ℕ) (start : ℕ) (before : List FileCall) (good : failed before ≡ false) (long : length (written first before) ≡ length first) where
+    pub wipes : (old mid wiped_file : LogFile S) (zeros : List ℕ) → 1 ≤ start → old.size ≡ length first → zeros ≡ replicate old.size 0 → writes old.store 0 zeros true mid.store → syncs mid.store true wiped_file.store
+        → wiped_file.is_ended ≡ false → wiped_file.size ≡ old.size → wiped_file.end ≡ 0 → wiped_file.next ≡ start
+        → GoesOn reads writes syncs old wiped_file first start before (λ log durable. (log ≡ []) × (durable ≡ 0))
+    wipes old mid new zeros positive size zeros-are wrote_it synced_it alive same end next =
+        let all : zeros ≡ replicate (length first) 0 = zeros-are ∙ ap (λ (n : ℕ). replicate n 0) size in
+        let lived : LogLife first start true (Sync true ∷ Write 0 (replicate (length first) 0) true ∷ before) [] 0 = wiped good long in
+        record {
+          more = Sync true ∷ Write 0 (replicate (length first) 0) true ∷ [];
+          log = [];
+          durable = 0;
+          did = (mid.store, (old.store, refl, subst (λ (t : List ℕ). writes old.store 0 t true mid.store) all wrote_it), synced_it);
+          is = record {
+            life = subst (λ (b : Bool). LogLife first start b (Sync true ∷ Write 0 (replicate (length first) 0) true ∷ before) [] 0) (sym (ap not alive)) lived;
+            positive = positive;
+            size = same ∙ size;
+            end = λ a. end;
+            next = λ a. (let e : start ≡ start + 0 = omega arith in next ∙ e);
+          };
+          is_so = (refl, refl);
+        }
+
+    pub wiped-not : (old new : LogFile S) → new.store ≡ old.store → new.is_ended ≡ true → Begins reads writes syncs old new first start before head false
+    wiped-not old new same ended = inl ([], same, nothing, ended)
+
+    pub wiped-partly : (old new : LogFile S) (zeros : List ℕ) → old.size ≡ length first → zeros ≡ replicate old.size 0 → writes old.store 0 zeros false new.store → new.is_ended ≡ true → Begins reads writes syncs old new first start before head false
+    wiped-partly old new zeros size zeros-are wrote_it ended =
+        let all : zeros ≡ replicate (length first) 0 = zeros-are ∙ ap (λ (n : ℕ). replicate n 0) size in
+        inl (Write 0 (replicate (length first) 0) false ∷ [], (old.store, refl, subst (λ (t : List ℕ). writes old.store 0 t false new.store) all wrote_it), wrote false, ended)
+
+    pub wiped-unsynced : (old mid new : LogFile S) (zeros : List ℕ) → old.size ≡ length first → zeros ≡ replicate old.size 0 → writes old.store 0 zeros true mid.store → syncs mid.store false new.store → new.is_ended ≡ true
+        → Begins reads writes syncs old new first start before head false
+    wiped-unsynced old mid new zeros size zeros-are wrote_it synced_it ended =
+        let all : zeros ≡ replicate (length first) 0 = zeros-are ∙ ap (λ (n : ℕ). replicate n 0) size in
+        inl (Sync false ∷ Write 0 (replicate (length first) 0) true ∷ [], (mid.store, (old.store, refl, subst (λ (t : List ℕ). writes old.store 0 t true mid.store) all wrote_it), synced_it), was_unsynced, ended)
+
+    -- the first record was appended, and synced
+    module _ (old s4 s5 : LogFile S) (w : GoesOn reads writes syncs old s4 first start before (λ log durable. (log ≡ []) × (durable ≡ 0))) where
+      pub begun-not : (P : List (List ℕ) → ℕ → Type 0) → GoesOn reads writes syncs s4 s5 first start (w.more ++ before) (λ log durable. (durable ≡ w.durable) × P log durable × ((log ≡ w.log) ⊎ (log ≡ w.log ++ head ∷ [])))
+          → Begins reads writes syncs old s5 first start before head false
+      begun-not P h =
+          inr (then old s4 s5 first start before (λ log durable. (log ≡ []) × (durable ≡ 0)) (λ log durable. ((log ≡ []) ⊎ (log ≡ head ∷ [])) × (durable ≡ 0)) w
+          (weaken s4 s5 first start (w.more ++ before) (λ log durable. (durable ≡ w.durable) × P log durable × ((log ≡ w.log) ⊎ (log ≡ w.log ++ head ∷ []))) (λ log durable. ((log ≡ []) ⊎ (log ≡ head ∷ [])) × (durable ≡ 0))
+          (λ log durable p. (which log p.2, p.0 ∙ w.is_so.1)) h))
+        where
+          which : (log : List (List ℕ)) → (log ≡ w.log) ⊎ (log ≡ w.log ++ head ∷ []) → (log ≡ []) ⊎ (log ≡ head ∷ [])
+          which log (inl e) = inl (e ∙ w.is_so.0)
+          which log (inr e) = inr (e ∙ ap (λ (t : List (List ℕ)). t ++ head ∷ []) w.is_so.0)
+
+      module _ (h : GoesOn reads writes syncs s4 s5 first start (w.more ++ before) (λ log durable. (durable ≡ w.durable) × (log ≡ w.log ++ head ∷ []))) where
+        both : GoesOn reads writes syncs old s5 first start before (λ log durable. (durable ≡ 0) × (log ≡ head ∷ []))
+        both =
+            then old s4 s5 first start before (λ log durable. (log ≡ []) × (durable ≡ 0)) (λ log durable. (durable ≡ 0) × (log ≡ head ∷ [])) w
+            (weaken s4 s5 first start (w.more ++ before) (λ log durable. (durable ≡ w.durable) × (log ≡ w.log ++ head ∷ [])) (λ log durable. (durable ≡ 0) × (log ≡ head ∷ []))
+            (λ log durable p. (p.0 ∙ w.is_so.1, p.1 ∙ ap (λ (t : List (List ℕ)). t ++ head ∷ []) w.is_so.0)) h)
+
+        pub begun-unsynced : (s6 : LogFile S) → s5.is_ended ≡ false → syncs s5.store false s6.store → s6.is_ended ≡ true → s6.size ≡ s5.size → Begins reads writes syncs old s6 first start before head false
+        begun-unsynced s6 e gave ended size =
+            inr (then old s5 s6 first start before (λ log durable. (durable ≡ 0) × (log ≡ head ∷ [])) (λ log durable. ((log ≡ []) ⊎ (log ≡ head ∷ [])) × (durable ≡ 0)) both
+            (weaken s5 s6 first start (both.more ++ before) (λ log durable. (log ≡ both.log) × (durable ≡ both.durable)) (λ log durable. ((log ≡ []) ⊎ (log ≡ head ∷ [])) × (durable ≡ 0))
+            (λ log durable p. (inr (p.0 ∙ both.is_so.1), p.1 ∙ both.is_so.0)) (syncs-badly first start both.durable (both.more ++ before) both.log s5 both.is s6 e gave ended size)))
+
+        pub begun : (s6 : LogFile S) → s5.is_ended ≡ false → syncs s5.store true s6.store → s6.is_ended ≡ s5.is_ended → s6.size ≡ s5.size → s6.end ≡ s5.end → s6.next ≡ s5.next → Begins reads writes syncs old s6 first start before head true
+        begun s6 e gave ended size end next =
+            then old s5 s6 first start before (λ log durable. (durable ≡ 0) × (log ≡ head ∷ [])) (λ log durable. (log ≡ head ∷ []) × (durable ≡ 1)) both
+            (weaken s5 s6 first start (both.more ++ before) (λ log durable. (log ≡ both.log) × (durable ≡ length both.log)) (λ log durable. (log ≡ head ∷ []) × (durable ≡ 1))
+            (λ log durable p. (p.0 ∙ both.is_so.1, p.1 ∙ ap (λ (t : List (List ℕ)). length t) both.is_so.1)) (syncs-well first start both.durable (both.more ++ before) both.log s5 both.is s6 e gave ended size end next))

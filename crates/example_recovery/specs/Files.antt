@@ -1,0 +1,65 @@
+-- A file of bytes, by the calls that were made of it: what was written, and what a crash may leave.
+-- Each list of calls is newest first.
+use Rattle.std.specs.Prelude.{◌≡◌, ◌⊎◌, ℕ, ◌+◌, ◌<◌, ◌≤◌, Bool, false, not, ◌&&◌, ◌||◌, if◌then◌else◌, List, [], ◌∷◌, length, slice_index}
+use Rattle.std.specs.Bool.{MatchBool}
+use Rattle.bp_page.specs.Patched.{patched}
+use Rattle.bp_ports.specs.Files.{Transfer, StoreSync}
+
+-- a read of these bytes, and a write of them, from a byte on, and a sync, that was good or not
+pub data FileCall : Type 0 where
+  Read : ℕ → List ℕ → Bool → FileCall
+  Write : ℕ → List ℕ → Bool → FileCall
+  Sync : Bool → FileCall
+
+-- what a store says of one call, and that these calls led from it, as it was, to it, as it is
+abbrev pub FileDoes : {S : Type 0} → Transfer S → Transfer S → StoreSync S → S → FileCall → S → Type 0
+FileDoes reads writes syncs store (FileCall.Read start bytes good) after =
+    reads store start bytes good after
+FileDoes reads writes syncs store (FileCall.Write start bytes good) after =
+    writes store start bytes good after
+FileDoes reads writes syncs store (FileCall.Sync good) after = syncs store good after
+
+abbrev pub FileDid : {S : Type 0} → Transfer S → Transfer S → StoreSync S → S → List FileCall → S → Type 0
+FileDid reads writes syncs store [] after = after ≡ store
+FileDid {S} reads writes syncs store (call ∷ older) after =
+    (between : S) × FileDid reads writes syncs store older between
+    × FileDoes reads writes syncs between call after
+
+-- some write or sync failed
+abbrev pub failed : List FileCall → Bool
+failed [] = false
+failed (FileCall.Write start bytes good ∷ older) = not good || failed older
+failed (FileCall.Sync good ∷ older) = not good || failed older
+failed (_ ∷ older) = failed older
+
+-- the bytes that were written last, where the file had `first`
+abbrev pub written : List ℕ → List FileCall → List ℕ
+written first [] = first
+written first (FileCall.Write start bytes good ∷ older) = patched start bytes (written first older)
+written first (_ ∷ older) = written first older
+
+-- a good sync makes durable all that was written, unless a call had failed before it
+abbrev pub settles : Bool → List FileCall → Bool
+settles good older = good && not (failed older)
+
+-- the bytes that were made durable last
+abbrev pub synced : List ℕ → List FileCall → List ℕ
+synced first [] = first
+synced first (FileCall.Sync good ∷ older) =
+    if settles good older then written first older else synced first older
+synced first (_ ∷ older) = synced first older
+
+-- byte i was written since
+abbrev pub Unsure : List FileCall → ℕ → Type 0
+Unsure [] i = ⊥
+Unsure (FileCall.Write start bytes good ∷ older) i =
+    ((start ≤ i) × (i < start + length bytes)) ⊎ Unsure older i
+Unsure (FileCall.Sync good ∷ older) i = MatchBool (settles good older) ⊥ (Unsure older i)
+Unsure (_ ∷ older) i = Unsure older i
+
+-- What a crash may leave: of each byte what was made durable last, or anything where it was written
+-- since. A write that is under way counts too, whatever comes of it.
+pub record FileLeaves (first : List ℕ) (calls : List FileCall) (left : List ℕ) : Type 0 where
+  pub long : length left ≡ length first
+  pub each : (i : ℕ) → i < length left →
+      (slice_index left i ≡ slice_index (synced first calls) i) ⊎ Unsure calls i
