@@ -5,3 +5,4 @@ pub mod LogFiles
 pub mod CommitsRead
 pub mod Redoing
 pub mod Pools
+pub mod PoolLives

@@ -12,3 +12,5 @@ pub mod Lives
 pub mod LogFiles
 -- Commits as records of a log.
 pub mod Commits
+-- What a pool had its device do.
+pub mod PoolLives

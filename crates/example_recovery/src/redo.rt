@@ -3,9 +3,11 @@ ghost use Rattle.std.specs.Prelude.{◌≡◌, ℕ, Bool, [], ◌∷◌, ◌++�
 ghost use Rattle.bp_trail.specs.declared.records.LogRecord.{LogRecord as Record};
 ghost use Rattle.bp_trail.specs.Parameters.{Parameters};
 ghost use Rattle.bp_trail.specs.Trail.{Trail};
+ghost use Rattle.bp_trail.specs.Legal.{Legal};
+ghost use Rattle.example_recovery.specs.PoolLives.{PoolLife, IsLogged, IsSound};
 ghost use Rattle.bp_trail.specs.Images.{written_into};
-ghost use Rattle.bp_trail.specs.Recovery.{NeverFall, Stopped, put, records_from, wanted, within};
-ghost use Rattle.example_recovery.specs.Disk.{DeviceCall, Did};
+ghost use Rattle.bp_trail.specs.Recovery.{NeverFall, Stopped, put, redo, records_from, wanted, within};
+ghost use Rattle.example_recovery.specs.Disk.{DeviceCall, Did, Honest, MayLeave};
 ghost use Rattle.example_recovery.specs.Promise.{IsMended, MayBeRedone, PoolLeaves, Recovers};
 ghost use Rattle.example_recovery.specs.Steps.{Begins, Redoes};
 
@@ -127,4 +129,16 @@ pub fn a_stopped_pool_may_be_redone()
         ((p : ℕ) → IsMended tears c.size from log p) →
         ((p : ℕ) → PoolLeaves c.size from log first synced past p (left p)) →
         MayBeRedone tears c.size from log (λ p. put (s p).has.unwritten (written_into first (within end past) p)) left }
+{}
+
+/// What a crash leaves of a device that a pool worked may be redone, with what a log has of its writes: to what the log
+/// makes of the first images. It does nothing: its contract is the law.
+pub fn a_pools_device_may_be_redone()
+    ensures { (c : Parameters) (tears : Bool) (first left : ℕ → List ℕ) (synced past : Trail)
+        (calls : List DeviceCall) (log : List Record) (start from end : ℕ) →
+        Legal c past → PoolLife past calls synced → Honest tears first calls →
+        ((p : ℕ) → IsLogged c synced past log start from end p) → ((p : ℕ) → length (first p) ≡ c.size) →
+        ((p : ℕ) → IsSound tears c.size from log calls p) →
+        ((p : ℕ) → MayLeave tears first calls p (left p)) →
+        MayBeRedone tears c.size from log (λ p. redo start log p (first p)) left }
 {}

@@ -1,0 +1,74 @@
+-- What a pool had its device do: its entries, the calls of the device, and the entries when the last
+-- good sync came before which none had failed. Each list is newest first.
+use Rattle.std.specs.Prelude.{◌≡◌, ◌≢◌, ◌⊎◌, ◌≤◌, ℕ, Bool, IsFalse, true, false, not, ◌&&◌, if◌then◌else◌, List, [], ◌∷◌, Some, None}
+use Rattle.bp_trail.specs.declared.entries.Entry.{Entry}
+use Rattle.bp_trail.specs.declared.entries.Call.{Call}
+use Rattle.bp_trail.specs.declared.entries.Call.TheVariants.{ReadEnd, WriteEnd}
+use Rattle.bp_trail.specs.declared.entries.Reply.TheVariants.{WriteFirst}
+use Rattle.std.specs.Bool.{MatchBool}
+use Rattle.bp_trail.specs.Lists.{some}
+use Rattle.bp_trail.specs.declared.records.LogRecord.{LogRecord}
+use Rattle.bp_trail.specs.Parameters.{Parameters}
+use Rattle.bp_trail.specs.Clock.{durable}
+use Rattle.bp_trail.specs.Event.{discards}
+use Rattle.bp_trail.specs.Recovery.{HasFullImage, IsRedoPoint, LogHas, NeverFall, records_from}
+use Rattle.bp_trail.specs.Trail.{Trail}
+use Rattle.example_recovery.specs.Disk.{DeviceCall, sync_failed}
+
+-- the entry ends what the device did
+abbrev pub ends_work : Call → Bool
+ends_work (ReadEnd ticket p image) = true
+ends_work (WriteEnd ticket p good) = true
+ends_work _ = false
+
+-- Each read and each write of the device is one call, which an entry ends, and a write goes out as it
+-- began.
+pub data PoolLife : Trail → List DeviceCall → Trail → Type 0 where
+  opened : PoolLife [] [] []
+  entered : {past synced : Trail} {calls : List DeviceCall} (e : Entry) → ends_work e.call ≡ false
+      → PoolLife past calls synced → PoolLife (e ∷ past) calls synced
+  read : {past synced : Trail} {calls : List DeviceCall} (e : Entry) (ticket p : ℕ) (image : List ℕ)
+      → e.call ≡ ReadEnd ticket p (Some image) → PoolLife past calls synced
+      → PoolLife (e ∷ past) (DeviceCall.Read p image ∷ calls) synced
+  not_read : {past synced : Trail} {calls : List DeviceCall} (e : Entry) (ticket p : ℕ)
+      → e.call ≡ ReadEnd ticket p None → PoolLife past calls synced
+      → PoolLife (e ∷ past) (DeviceCall.NotRead p ∷ calls) synced
+  wrote : {older synced : Trail} {calls : List DeviceCall} (e f : Entry) (ticket p : ℕ)
+      (image : List ℕ) (good : Bool) → e.call ≡ WriteEnd ticket p good
+      → f.reply ≡ WriteFirst ticket p image → PoolLife (f ∷ older) calls synced
+      → PoolLife (e ∷ f ∷ older) (DeviceCall.Write p image good ∷ calls) synced
+  was_synced : {past synced : Trail} {calls : List DeviceCall} (good : Bool)
+      → PoolLife past calls synced
+      → PoolLife past (DeviceCall.Sync good ∷ calls)
+      (if good && not (some sync_failed calls) then past else synced)
+
+-- what an engine keeps of page p: the log has its writes as far as it goes, and goes as far as the
+-- mark; redo may begin there, and the page was not discarded
+pub record IsLogged (c : Parameters) (synced past : Trail) (log : List LogRecord) (start from end p : ℕ)
+    : Type 0 where
+  pub has : LogHas log start from end past p
+  pub mark : durable past ≤ end
+  pub from_start : start ≤ from
+  pub point : IsRedoPoint from synced past p
+  pub rises : NeverFall (records_from start log p)
+  pub kept : IsFalse (some (discards p) past)
+
+-- no write of page p failed; and none has come since the last good sync before which none had
+abbrev pub NoneFailed : ℕ → List DeviceCall → Type 0
+NoneFailed p [] = Unit {0}
+NoneFailed p (DeviceCall.Write q image false ∷ older) = (q ≢ p) × NoneFailed p older
+NoneFailed p (_ ∷ older) = NoneFailed p older
+
+abbrev pub NoneOpen : ℕ → List DeviceCall → Type 0
+NoneOpen p [] = Unit {0}
+NoneOpen p (DeviceCall.Write q image good ∷ older) = (q ≢ p) × NoneOpen p older
+NoneOpen p (DeviceCall.Sync good ∷ older) =
+    MatchBool (good && not (some sync_failed older)) (NoneFailed p older) (NoneOpen p older)
+NoneOpen p (_ ∷ older) = NoneOpen p older
+
+-- page p needs no whole write of the device: it tears none, or the log has a full image, or redo does
+-- not write it and no write of it is open
+abbrev pub IsSound : Bool → ℕ → ℕ → List LogRecord → List DeviceCall → ℕ → Type 0
+IsSound tears size from log calls p =
+    (tears ≡ false) ⊎ HasFullImage size (records_from from log p)
+    ⊎ ((records_from from log p ≡ []) × NoneOpen p calls)

@@ -1,0 +1,35 @@
+-- A table as its calls leave it: a pool over a device, and a log in a file.
+use Rattle.std.specs.Prelude.{◌≡◌, ℕ, ◌+◌, ◌<◌, Bool, IsFalse, if◌then◌else◌, List, [], ◌∷◌, ◌++◌, reverse}
+use Rattle.bp_trail.specs.declared.records.LogRecord.{LogRecord}
+use Rattle.bp_trail.specs.Parameters.{Parameters}
+use Rattle.bp_trail.specs.Lists.{some}
+use Rattle.bp_trail.specs.Trail.{Trail}
+use Rattle.bp_trail.specs.Clock.{durable}
+use Rattle.bp_trail.specs.Event.{is_write, discards}
+use Rattle.bp_trail.specs.Legal.{Legal}
+use Rattle.bp_trail.specs.Recovery.{record_of}
+use Rattle.example_recovery.specs.Commits.{log_of, changes_of, AreCommits}
+use Rattle.example_recovery.specs.Disk.{DeviceCall}
+use Rattle.example_recovery.specs.Files.{FileCall}
+use Rattle.example_recovery.specs.Lives.{LogLife}
+use Rattle.example_recovery.specs.PoolLives.{PoolLife}
+
+-- the writes of a trail as records, newest first
+abbrev pub writes_of : Trail → List LogRecord
+writes_of [] = []
+writes_of (e ∷ past) = if is_write e.call then record_of e.call ∷ writes_of past else writes_of past
+
+-- The commits of a table since its log was begun, and how many records of the log are durable. Each
+-- write of the pool has its record, in the same order; of the last commit some may still be pending.
+-- The mark is not above what is durable.
+pub record TableRan (c : Parameters) (table file : List ℕ) (start : ℕ) (alive : Bool)
+    (past synced : Trail) (calls : List DeviceCall) (log_calls : List FileCall)
+    (commits : List (List LogRecord)) (synced_records : ℕ) : Type 0 where
+  pub log : LogLife file start alive log_calls (log_of table commits) synced_records
+  pub are : AreCommits (start + 1) commits
+  pub legal : Legal c past
+  pub pool : PoolLife past calls synced
+  pub pending : List LogRecord
+  pub written : reverse (changes_of commits) ≡ pending ++ writes_of past
+  pub mark : durable past < start + synced_records
+  pub kept : (p : ℕ) → IsFalse (some (discards p) past)
