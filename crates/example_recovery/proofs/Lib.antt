@@ -4,5 +4,5 @@ pub mod Lives
 pub mod LogFiles
 pub mod CommitsRead
 pub mod Redoing
-pub mod Pools
 pub mod PoolLives
+pub mod Tables

@@ -356,7 +356,7 @@ module _ (c : Parameters) (tears : Bool) (first : ℕ → List ℕ) where
           let bad : ends_well t e.call ≡ false = ap (ends_well t) i in
           let begun = (first-is c older f.client f.call f.reply (event-of c older f l.before.here) t q new j).1 t in
           let none : some (λ x. ends_well t x.call) (e ∷ f ∷ older) ≡ false =
-              ap (λ (b : Bool). b || some (λ x. ends_well t x.call) (f ∷ older)) bad ∙ ap (λ (b : Bool). b || some (λ x. ends_well t x.call) older) begun ∙ fresh-first c older f l.before t q new j in
+          ap (λ (b : Bool). b || some (λ x. ends_well t x.call) (f ∷ older)) bad ∙ ap (λ (b : Bool). b || some (λ x. ends_well t x.call) older) begun ∙ fresh-first c older f l.before t q new j in
           let given : due_after false new ≡ Some d = ap (λ (b : Bool). due_after b new) (sym none) ∙ here (eq-eqb q p same) in absurd (cc)
       by before false i (inr h) = before h (due-plain e (f ∷ older) l (λ u. ap (ends_well u) i) p d k)
 

@@ -46,9 +46,6 @@ records-within : (end p : ℕ) (past : Trail) → records p (within end past) �
 records-within end p [] = refl
 records-within end p (e ∷ past) = go (nat_le (lsn_of e.call) end) refl (records-within end p past)
   where
-    r : LogRecord
-    r = record_of e.call
-
     go : (b : Bool) → nat_le (lsn_of e.call) end ≡ b → records p (within end past) ≡ filter (within_of end p) (writes_of past)
         → filter_map (record_written p) (cond b (e ∷ within end past) (within end past)) ≡ filter (within_of end p) (cond (is_write e.call) (record_of e.call ∷ writes_of past) (writes_of past))
     go true le ih = inner (is_write e.call) (page_of e.call == p) refl refl
@@ -136,15 +133,18 @@ kept-of lsn end kept lost f e =
 
 wanted-within : (end p : ℕ) (xs : List LogRecord) → filter (wanted 0 p) (filter (up_to end) xs) ≡ filter (within_of end p) xs
 wanted-within end p [] = refl
-wanted-within end p (r ∷ xs) = go (nat_le r.lsn end) (r.page == p) (wanted-within end p xs)
+wanted-within end p (r ∷ xs) = go (nat_le r.lsn end) (wanted-within end p xs)
   where
-    go : (u v : Bool) → filter (wanted 0 p) (filter (up_to end) xs) ≡ filter (within_of end p) xs
-        → filter (wanted 0 p) (cond u (r ∷ filter (up_to end) xs) (filter (up_to end) xs)) ≡ cond (v && u) (r ∷ filter (within_of end p) xs) (filter (within_of end p) xs)
-    go u v ih = ?
+    go : (u : Bool) → filter (wanted 0 p) (filter (up_to end) xs) ≡ filter (within_of end p) xs
+        → filter (wanted 0 p) (cond u (r ∷ filter (up_to end) xs) (filter (up_to end) xs)) ≡ cond ((r.page == p) && u) (r ∷ filter (within_of end p) xs) (filter (within_of end p) xs)
+    go true ih =
+        ap (λ (b : Bool). cond ((r.page == p) && b) (r ∷ filter (wanted 0 p) (filter (up_to end) xs)) (filter (wanted 0 p) (filter (up_to end) xs))) (le-leb 0 r.lsn (omega arith))
+        ∙ ap (λ (t : List LogRecord). cond ((r.page == p) && true) (r ∷ t) t) ih
+    go false ih = ih ∙ sym (ap (λ (b : Bool). cond b (r ∷ filter (within_of end p) xs) (filter (within_of end p) xs)) (and-false (r.page == p)))
 
 every-zero : (rs : List LogRecord) → every (λ r. nat_le 0 r.lsn) rs ≡ true
 every-zero [] = refl
-every-zero (r ∷ rs) = every-zero rs
+every-zero (r ∷ rs) = ap (λ (b : Bool). b && every (λ x. nat_le 0 x.lsn) rs) (le-leb 0 r.lsn (omega arith)) ∙ every-zero rs
 
 module _ (c : Parameters) (tears : Bool) (first left : ℕ → List ℕ) (table file left_file : List ℕ) (start : ℕ) (alive : Bool) (past synced : Trail) (calls : List DeviceCall) (log_calls : List FileCall) (commits : List (List LogRecord)) (durables found last : ℕ) (changes : List LogRecord)
     (ran : TableRan c table file start alive past synced calls log_calls commits durables) (honestly : Honest tears first calls) (sized : (p : ℕ) → length (first p) ≡ c.size)
@@ -161,8 +161,8 @@ module _ (c : Parameters) (tears : Bool) (first left : ℕ → List ℕ) (table 
   has-of k p =
       let end = start + length k.kept in
       let same : log ≡ filter (up_to end) (ran.pending ++ writes_of past) =
-          ap reverse k.changes_are ∙ sym (kept-of (start + 1) end k.kept k.lost (subst (AreCommits (start + 1)) k.stands ran.are) (omega arith))
-          ∙ ap (λ (cs : List (List LogRecord)). filter (up_to end) (reverse (changes_of cs))) (sym k.stands) ∙ ap (filter (up_to end)) ran.written in
+      ap reverse k.changes_are ∙ sym (kept-of (start + 1) end k.kept k.lost (subst (AreCommits (start + 1)) k.stands ran.are) (omega arith))
+      ∙ ap (λ (cs : List (List LogRecord)). filter (up_to end) (reverse (changes_of cs))) (sym k.stands) ∙ ap (filter (up_to end)) ran.written in
       record {
         unwritten = filter (wanted 0 p) (filter (up_to end) ran.pending);
         stands = ap (filter (wanted 0 p)) (same ∙ filter-append (up_to end) ran.pending (writes_of past))
@@ -185,7 +185,7 @@ module _ (c : Parameters) (tears : Bool) (first left : ℕ → List ℕ) (table 
   by-image p image may = recovers-ordered c first synced past log 0 0 (start + length whole.kept) p image (stopped whole p) (ordered-zero (records_from 0 log p)) may
 
   by-sound : (p : ℕ) → (tears ≡ true) × (length (left p) ≡ c.size) → IsSound tears c.size 0 log calls p → redo 0 log p (left p) ≡ redo 0 log p (first p)
-  by-sound p torn (inl no) = let t = torn.0 in absurd (cc)
+  by-sound p torn (inl safe) = let t = torn.0 in absurd (cc)
   by-sound p torn (inr (inl full)) = redo-whole log 0 p (left p) (first p) (subst (λ n. HasFullImage n (records_from 0 log p)) (sym torn.1) full) (sized p ∙ sym torn.1)
   by-sound p torn (inr (inr (none, closed))) = elim (leave c false first past synced calls ran.pool ran.legal p (left p) (whole-leave tears first p (left p) calls closed (leaves p))) [
     | inl may ↦ by-image p (left p) may
@@ -201,7 +201,7 @@ module _ (c : Parameters) (tears : Bool) (first left : ℕ → List ℕ) (table 
   long p (inr torn) = torn.1
 
   mends : (p : ℕ) → IsSound tears c.size 0 log calls p → IsMended tears c.size 0 log p
-  mends p (inl no) = inl no
+  mends p (inl safe) = inl safe
   mends p (inr (inl full)) = inr (inl full)
   mends p (inr (inr none)) = inr (inr none.0)
 

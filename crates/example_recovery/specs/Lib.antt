@@ -14,3 +14,5 @@ pub mod LogFiles
 pub mod Commits
 -- What a pool had its device do.
 pub mod PoolLives
+-- A table, as its calls leave it.
+pub mod Tables

@@ -1,6 +1,6 @@
 -- What a pool had its device do: its entries, the calls of the device, and the entries when the last
 -- good sync came before which none had failed. Each list is newest first.
-use Rattle.std.specs.Prelude.{◌≡◌, ◌≢◌, ◌⊎◌, ◌≤◌, ℕ, Bool, IsFalse, true, false, not, ◌&&◌, if◌then◌else◌, List, [], ◌∷◌, Some, None}
+use Rattle.std.specs.Prelude.{◌≡◌, ◌≢◌, ◌⊎◌, ℕ, Bool, true, false, not, ◌&&◌, if◌then◌else◌, List, [], ◌∷◌, Some, None}
 use Rattle.bp_trail.specs.declared.entries.Entry.{Entry}
 use Rattle.bp_trail.specs.declared.entries.Call.{Call}
 use Rattle.bp_trail.specs.declared.entries.Call.TheVariants.{ReadEnd, WriteEnd}
@@ -8,10 +8,7 @@ use Rattle.bp_trail.specs.declared.entries.Reply.TheVariants.{WriteFirst}
 use Rattle.std.specs.Bool.{MatchBool}
 use Rattle.bp_trail.specs.Lists.{some}
 use Rattle.bp_trail.specs.declared.records.LogRecord.{LogRecord}
-use Rattle.bp_trail.specs.Parameters.{Parameters}
-use Rattle.bp_trail.specs.Clock.{durable}
-use Rattle.bp_trail.specs.Event.{discards}
-use Rattle.bp_trail.specs.Recovery.{HasFullImage, IsRedoPoint, LogHas, NeverFall, records_from}
+use Rattle.bp_trail.specs.Recovery.{HasFullImage, records_from}
 use Rattle.bp_trail.specs.Trail.{Trail}
 use Rattle.example_recovery.specs.Disk.{DeviceCall, sync_failed}
 
@@ -41,17 +38,6 @@ pub data PoolLife : Trail → List DeviceCall → Trail → Type 0 where
       → PoolLife past calls synced
       → PoolLife past (DeviceCall.Sync good ∷ calls)
       (if good && not (some sync_failed calls) then past else synced)
-
--- what an engine keeps of page p: the log has its writes as far as it goes, and goes as far as the
--- mark; redo may begin there, and the page was not discarded
-pub record IsLogged (c : Parameters) (synced past : Trail) (log : List LogRecord) (start from end p : ℕ)
-    : Type 0 where
-  pub has : LogHas log start from end past p
-  pub mark : durable past ≤ end
-  pub from_start : start ≤ from
-  pub point : IsRedoPoint from synced past p
-  pub rises : NeverFall (records_from start log p)
-  pub kept : IsFalse (some (discards p) past)
 
 -- no write of page p failed; and none has come since the last good sync before which none had
 abbrev pub NoneFailed : ℕ → List DeviceCall → Type 0

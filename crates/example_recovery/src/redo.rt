@@ -3,19 +3,24 @@ ghost use Rattle.std.specs.Prelude.{◌≡◌, ℕ, Bool, [], ◌∷◌, ◌++�
 ghost use Rattle.bp_trail.specs.declared.records.LogRecord.{LogRecord as Record};
 ghost use Rattle.bp_trail.specs.Parameters.{Parameters};
 ghost use Rattle.bp_trail.specs.Trail.{Trail};
-ghost use Rattle.bp_trail.specs.Legal.{Legal};
-ghost use Rattle.example_recovery.specs.PoolLives.{PoolLife, IsLogged, IsSound};
-ghost use Rattle.bp_trail.specs.Images.{written_into};
-ghost use Rattle.bp_trail.specs.Recovery.{NeverFall, Stopped, put, redo, records_from, wanted, within};
+ghost use Rattle.bp_trail.specs.Recovery.{records_from, redo, wanted};
+ghost use Rattle.example_recovery.specs.Commits.{HasCommits, Kept};
 ghost use Rattle.example_recovery.specs.Disk.{DeviceCall, Did, Honest, MayLeave};
-ghost use Rattle.example_recovery.specs.Promise.{IsMended, MayBeRedone, PoolLeaves, Recovers};
+ghost use Rattle.example_recovery.specs.Files.{FileCall, FileLeaves, synced as synced_bytes, written as written_bytes};
+ghost use Rattle.example_recovery.specs.Lives.{TellsTrue};
+ghost use Rattle.example_recovery.specs.PoolLives.{IsSound};
+ghost use Rattle.example_recovery.specs.Promise.{MayBeRedone, Recovers};
 ghost use Rattle.example_recovery.specs.Steps.{Begins, Redoes};
+ghost use Rattle.example_recovery.specs.Tables.{Opens, TableRan};
 
+use crate::log::LogFault;
+use crate::reading::{FoundLog, read_log};
 use bp_page::{Image, Lsn, PageNo, Refusal};
 use bp_ports::Port;
 use bp_trail::{LogRecord, redo_page, refusal_of_read};
 use std::alloc::Global;
 use std::sync::Wait;
+use thiserror::Error;
 
 /// Returns true if redo of a page from an LSN on wants this record.
 fn is_wanted(change: &LogRecord, from: Lsn, page: PageNo) -> bool
@@ -118,27 +123,53 @@ pub fn redo_pages<R: Wait, P: Port>(
     }
 }
 
-/// What a stopped pool leaves may be redone, to what the writes within its log make of the first images, and after
-/// these any records whose write never came to be. That is law `redo_recovers_each_page` of every page, and where the
-/// log has a full image `full_images_recover_torn_pages`. It does nothing: its contract is the law.
-pub fn a_stopped_pool_may_be_redone()
-    ensures { (c : Parameters) (tears : Bool) (first left : ℕ → List ℕ)
-        (synced past : Trail) (log : List Record) (start from end : ℕ)
-        (s : (p : ℕ) → Stopped c first synced past log start from end p) →
-        ((p : ℕ) → NeverFall (records_from start log p)) → ((p : ℕ) → length (first p) ≡ c.size) →
-        ((p : ℕ) → IsMended tears c.size from log p) →
-        ((p : ℕ) → PoolLeaves c.size from log first synced past p (left p)) →
-        MayBeRedone tears c.size from log (λ p. put (s p).has.unwritten (written_into first (within end past) p)) left }
-{}
+/// Why a table was not opened.
+#[derive(Clone, Copy, PartialEq, Eq, Debug, Drop, Error)]
+pub enum OpenFault {
+    #[error("{0}")]
+    Log(LogFault),
+    #[error("{0}")]
+    Pages(Refusal),
+}
 
-/// What a crash leaves of a device that a pool worked may be redone, with what a log has of its writes: to what the log
-/// makes of the first images. It does nothing: its contract is the law.
-pub fn a_pools_device_may_be_redone()
-    ensures { (c : Parameters) (tears : Bool) (first left : ℕ → List ℕ) (synced past : Trail)
-        (calls : List DeviceCall) (log : List Record) (start from end : ℕ) →
-        Legal c past → PoolLife past calls synced → Honest tears first calls →
-        ((p : ℕ) → IsLogged c synced past log start from end p) → ((p : ℕ) → length (first p) ≡ c.size) →
-        ((p : ℕ) → IsSound tears c.size from log calls p) →
+/// Opens a table after a crash: reads its log, and puts all commits that are there into the pages, durably. It may be
+/// stopped at any moment, and begun again. `Log` where the bytes are no log of this table: no page is then read or
+/// written. `Pages` as from `redo_pages`.
+pub fn recover<R: Wait, P: Port>(
+    rt: &R,
+    alloc: Global,
+    bytes: &[u8],
+    table: &[u8],
+    port: &mut P,
+) -> Result<FoundLog, OpenFault>
+    ensures { Opens P.read_gives P.write_gives P.sync_gives (P.geometry_of port.old) table.now bytes.now
+        port.old result port.new }
+{
+    let found = match read_log(alloc, bytes, table) {
+        Ok(found) => found,
+        Err(fault) => return Err(OpenFault::Log(fault)),
+    };
+    match redo_pages(rt, alloc, port, &found.changes, Lsn::new(0)) {
+        Ok(()) => Ok(found),
+        Err(why) => Err(OpenFault::Pages(why)),
+    }
+}
+
+/// What is read of the log after a crash are the first commits, each whole, and no fewer than were synced; and whatever
+/// the device then has may be redone, to what these commits make of the first images. It does nothing: its contract is
+/// the law.
+pub fn a_crash_is_mended()
+    ensures { (c : Parameters) (tears : Bool) (first left : ℕ → List ℕ) (table file bytes : List ℕ)
+        (start : ℕ) (alive : Bool) (past synced : Trail) (calls : List DeviceCall)
+        (log_calls : List FileCall) (commits : List (List Record)) (durable found last : ℕ)
+        (changes : List Record) →
+        TableRan c table file start alive past synced calls log_calls commits durable →
+        Honest tears first calls → ((p : ℕ) → length (first p) ≡ c.size) →
+        FileLeaves file log_calls bytes →
+        TellsTrue start (synced_bytes file log_calls) (written_bytes file log_calls) bytes →
         ((p : ℕ) → MayLeave tears first calls p (left p)) →
-        MayBeRedone tears c.size from log (λ p. redo start log p (first p)) left }
+        HasCommits table bytes found last changes →
+        ((p : ℕ) → IsSound tears c.size 0 (reverse changes) calls p) →
+        Kept start durable commits found last changes × MayBeRedone tears c.size 0 (reverse changes)
+        (λ p. redo 0 (reverse changes) p (first p)) left }
 {}
