@@ -6,3 +6,4 @@ pub mod CommitsRead
 pub mod Redoing
 pub mod PoolLives
 pub mod Tables
+pub mod Tabling

@@ -2,24 +2,22 @@
 use Rattle.std.proofs.Common.{◌≡◌, inl, inr, refl, sym, ap, subst, ◌∙◌, ℕ, ◌+◌, ◌<◌, ◌≤◌, nat_le, Bool, true, false, cond, ◌&&◌, ◌==◌, List, [], ◌∷◌, ◌++◌, length, reverse, filter, filter_map, Some, None, append_assoc, append-nil, arith}
 use Rattle.std.specs.List.{cons_option}
 use Rattle.std.specs.Prelude.{◌⊎◌}
-use Rattle.std.proofs.lemmas.Bool.{lt-leb, leb-true, le-leb}
+use Rattle.std.proofs.lemmas.Bool.{lt-leb, le-leb}
 use Rattle.std.proofs.lemmas.List.{reverse-append}
 use Rattle.std.proofs.lemmas.List.Elements.{filter-append}
-use Rattle.bp_trail.specs.declared.entries.Entry.{Entry}
 use Rattle.bp_trail.specs.declared.entries.Call.{Call}
 use Rattle.bp_trail.specs.declared.entries.Call.TheVariants as call
 use Rattle.bp_trail.specs.declared.records.LogRecord.{LogRecord}
 use Rattle.bp_trail.specs.Parameters.{Parameters}
-use Rattle.bp_trail.specs.Lists.{some, every}
+use Rattle.bp_trail.specs.Lists.{every}
 use Rattle.bp_trail.specs.Trail.{Trail}
-use Rattle.bp_trail.specs.Clock.{durable}
 use Rattle.bp_trail.specs.Event.{is_write, page_of, lsn_of}
-use Rattle.bp_trail.specs.Recovery.{HasFullImage, MayHave, Stopped, LogHas, put, redo, wanted, record_of, record_written, records, records_from, within}
+use Rattle.bp_trail.specs.Recovery.{HasFullImage, MayHave, Stopped, LogHas, redo, wanted, record_of, record_written, records, records_from, within}
 use Rattle.bp_trail.specs.Recovery.GaveBack.{from_opening}
 use Rattle.bp_trail.proofs.Bytes.{ordered-zero}
 use Rattle.bp_trail.proofs.Redoing.{recovers-ordered}
 use Rattle.bp_trail.proofs.Crashes.{image-length, redo-whole}
-use Rattle.example_recovery.specs.Commits.{HasCommits, Kept, IsChange, AreChanges, AreCommits, changes_of, log_of}
+use Rattle.example_recovery.specs.Commits.{HasCommits, Kept, AreChanges, AreCommits, changes_of}
 use Rattle.example_recovery.specs.Disk.{DeviceCall, Honest, MayLeave}
 use Rattle.example_recovery.specs.Files.{FileCall, FileLeaves, synced as synced_bytes, written as written_bytes}
 use Rattle.example_recovery.specs.Lives.{TellsTrue}
@@ -146,8 +144,8 @@ every-zero : (rs : List LogRecord) → every (λ r. nat_le 0 r.lsn) rs ≡ true
 every-zero [] = refl
 every-zero (r ∷ rs) = ap (λ (b : Bool). b && every (λ x. nat_le 0 x.lsn) rs) (le-leb 0 r.lsn (omega arith)) ∙ every-zero rs
 
-module _ (c : Parameters) (tears : Bool) (first left : ℕ → List ℕ) (table file left_file : List ℕ) (start : ℕ) (alive : Bool) (past synced : Trail) (calls : List DeviceCall) (log_calls : List FileCall) (commits : List (List LogRecord)) (durables found last : ℕ) (changes : List LogRecord)
-    (ran : TableRan c table file start alive past synced calls log_calls commits durables) (honestly : Honest tears first calls) (sized : (p : ℕ) → length (first p) ≡ c.size)
+module _ (c : Parameters) (tears : Bool) (first left : ℕ → List ℕ) (table file left_file : List ℕ) (start : ℕ) (alive : Bool) (past synced : Trail) (calls : List DeviceCall) (log_calls : List FileCall) (commits : List (List LogRecord)) (durables found last : ℕ) (changes pending : List LogRecord)
+    (ran : TableRan c table file start alive past synced calls log_calls commits durables pending) (honestly : Honest tears first calls) (sized : (p : ℕ) → length (first p) ≡ c.size)
     (file_left : FileLeaves file log_calls left_file) (tells : TellsTrue start (synced_bytes file log_calls) (written_bytes file log_calls) left_file)
     (leaves : (p : ℕ) → MayLeave tears first calls p (left p)) (has : HasCommits table left_file found last changes) (sound : (p : ℕ) → IsSound tears c.size 0 (reverse changes) calls p) where
   pub whole : Kept start durables commits found last changes
@@ -160,15 +158,15 @@ module _ (c : Parameters) (tears : Bool) (first left : ℕ → List ℕ) (table 
   has-of : (k : Kept start durables commits found last changes) (p : ℕ) → LogHas log 0 0 (start + length k.kept) past p
   has-of k p =
       let end = start + length k.kept in
-      let same : log ≡ filter (up_to end) (ran.pending ++ writes_of past) =
+      let same : log ≡ filter (up_to end) (pending ++ writes_of past) =
       ap reverse k.changes_are ∙ sym (kept-of (start + 1) end k.kept k.lost (subst (AreCommits (start + 1)) k.stands ran.are) (omega arith))
       ∙ ap (λ (cs : List (List LogRecord)). filter (up_to end) (reverse (changes_of cs))) (sym k.stands) ∙ ap (filter (up_to end)) ran.written in
       record {
-        unwritten = filter (wanted 0 p) (filter (up_to end) ran.pending);
-        stands = ap (filter (wanted 0 p)) (same ∙ filter-append (up_to end) ran.pending (writes_of past))
-            ∙ filter-append (wanted 0 p) (filter (up_to end) ran.pending) (filter (up_to end) (writes_of past))
-            ∙ ap (λ (t : List LogRecord). filter (wanted 0 p) (filter (up_to end) ran.pending) ++ t) (wanted-within end p (writes_of past) ∙ sym (records-within end p past));
-        unwritten_from = every-zero (filter (wanted 0 p) (filter (up_to end) ran.pending));
+        unwritten = filter (wanted 0 p) (filter (up_to end) pending);
+        stands = ap (filter (wanted 0 p)) (same ∙ filter-append (up_to end) pending (writes_of past))
+            ∙ filter-append (wanted 0 p) (filter (up_to end) pending) (filter (up_to end) (writes_of past))
+            ∙ ap (λ (t : List LogRecord). filter (wanted 0 p) (filter (up_to end) pending) ++ t) (wanted-within end p (writes_of past) ∙ sym (records-within end p past));
+        unwritten_from = every-zero (filter (wanted 0 p) (filter (up_to end) pending));
       }
 
   stopped : (k : Kept start durables commits found last changes) (p : ℕ) → Stopped c first synced past log 0 0 (start + length k.kept) p

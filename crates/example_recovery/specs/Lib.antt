@@ -16,3 +16,4 @@ pub mod Commits
 pub mod PoolLives
 -- A table, as its calls leave it.
 pub mod Tables
+pub mod TableCalls

@@ -28,12 +28,11 @@ writes_of (e ∷ past) = if is_write e.call then record_of e.call ∷ writes_of 
 -- The mark is not above what is durable.
 pub record TableRan (c : Parameters) (table file : List ℕ) (start : ℕ) (alive : Bool)
     (past synced : Trail) (calls : List DeviceCall) (log_calls : List FileCall)
-    (commits : List (List LogRecord)) (synced_records : ℕ) : Type 0 where
+    (commits : List (List LogRecord)) (synced_records : ℕ) (pending : List LogRecord) : Type 0 where
   pub log : LogLife file start alive log_calls (log_of table commits) synced_records
   pub are : AreCommits (start + 1) commits
   pub legal : Legal c past
   pub pool : PoolLife past calls synced
-  pub pending : List LogRecord
   pub written : reverse (changes_of commits) ≡ pending ++ writes_of past
   pub mark : durable past < start + synced_records
   pub kept : (p : ℕ) → IsFalse (some (discards p) past)

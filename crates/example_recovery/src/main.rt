@@ -6,6 +6,7 @@ mod frames;
 mod log;
 mod reading;
 mod redo;
+mod table;
 
 use bp_page::{Bytes, Geometry, Image, Lsn, PageNo, Refusal};
 use bp_ports::{FusePort, MemDevice, Port};

@@ -162,8 +162,8 @@ pub fn a_crash_is_mended()
     ensures { (c : Parameters) (tears : Bool) (first left : ℕ → List ℕ) (table file bytes : List ℕ)
         (start : ℕ) (alive : Bool) (past synced : Trail) (calls : List DeviceCall)
         (log_calls : List FileCall) (commits : List (List Record)) (durable found last : ℕ)
-        (changes : List Record) →
-        TableRan c table file start alive past synced calls log_calls commits durable →
+        (changes pending : List Record) →
+        TableRan c table file start alive past synced calls log_calls commits durable pending →
         Honest tears first calls → ((p : ℕ) → length (first p) ≡ c.size) →
         FileLeaves file log_calls bytes →
         TellsTrue start (synced_bytes file log_calls) (written_bytes file log_calls) bytes →

@@ -1,0 +1,43 @@
+-- What the calls of a table do to it.
+use Rattle.std.specs.Prelude.{◌≡◌, ℕ, not, List, ◌++◌, map}
+use Rattle.bp_device.specs.Owned.{OwnedView}
+use Rattle.bp_ports.specs.Files.{Transfer, StoreSync}
+use Rattle.bp_trail.specs.declared.records.LogRecord.{LogRecord}
+use Rattle.bp_trail.specs.Trail.{Trail}
+use Rattle.example_recovery.specs.declared.log.LogFile.{LogFile}
+use Rattle.example_recovery.specs.Commits.{log_of}
+use Rattle.example_recovery.specs.Disk.{DeviceCall, Reads, Writes, Syncs, Did}
+use Rattle.example_recovery.specs.Files.{FileCall, FileDid}
+use Rattle.example_recovery.specs.LogFiles.{IsLogFile}
+use Rattle.example_recovery.specs.Tables.{TableRan}
+
+-- a change under an LSN
+abbrev pub under : ℕ → LogRecord → LogRecord
+under lsn r = record r { lsn = lsn }
+
+-- a pool and a log that are as these calls left them
+pub record IsTable {S P : Type 0} (table file : List ℕ) (start : ℕ) (synced : Trail)
+    (calls : List DeviceCall) (log_calls : List FileCall) (commits : List (List LogRecord))
+    (durable : ℕ) (pending : List LogRecord) (pool : OwnedView P) (log : LogFile S) : Type 0 where
+  pub ran : TableRan pool.core.parameters table file start (not log.is_ended) pool.core.past synced
+      calls log_calls commits durable pending
+  pub file_is : IsLogFile file start log_calls (log_of table commits) durable log
+
+-- a call that goes on with them, and leaves commits, a number of durable records and pending changes
+-- that are so
+pub record TableGoes {S P : Type 0} (reads writes : Transfer S) (syncs : StoreSync S)
+    (page_reads : Reads P) (page_writes : Writes P) (page_syncs : Syncs P) (old new : OwnedView P)
+    (old_log new_log : LogFile S) (table file : List ℕ) (start : ℕ) (calls : List DeviceCall)
+    (log_calls : List FileCall) (so : List (List LogRecord) → ℕ → List LogRecord → Type 0)
+    : Type 0 where
+  pub more : List DeviceCall
+  pub more_log : List FileCall
+  pub synced : Trail
+  pub commits : List (List LogRecord)
+  pub durable : ℕ
+  pub pending : List LogRecord
+  pub did : Did page_reads page_writes page_syncs old.port more new.port
+  pub log_did : FileDid reads writes syncs old_log.store more_log new_log.store
+  pub is : IsTable table file start synced (more ++ calls) (more_log ++ log_calls) commits durable
+      pending new new_log
+  pub is_so : so commits durable pending

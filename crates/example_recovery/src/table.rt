@@ -1,0 +1,125 @@
+//! A table: a pool for one owner, and a log in a file.
+ghost use Rattle.std.specs.Prelude.{◌≡◌, ◌⊎◌, ◌+◌, ◌++◌, ◌∷◌, [], ℕ, List, length, OnOk, IfOk};
+ghost use Rattle.bp_trail.specs.declared.records.LogRecord.{LogRecord as Record};
+ghost use Rattle.bp_trail.specs.Trail.{Trail};
+ghost use Rattle.example_recovery.specs.Disk.{DeviceCall};
+ghost use Rattle.example_recovery.specs.Files.{FileCall};
+ghost use Rattle.example_recovery.specs.TableCalls.{IsTable, TableGoes, under};
+ghost use Rattle.example_recovery.specs.declared.table.TableFault.TheVariants.{Log, Pages};
+
+use crate::log::{LogFault, LogFile};
+use bp_core::{Pass, SilentKeeper};
+use bp_device::OwnedPool;
+use bp_page::{Lsn, PageNo, Refusal};
+use bp_ports::{Port, Store};
+use bp_trail::LogRecord;
+use std::sync::Wait;
+use thiserror::Error;
+
+/// Why a call of a table was refused.
+#[derive(Clone, Copy, PartialEq, Eq, Debug, Drop, Error)]
+pub enum TableFault {
+    #[error("{0}")]
+    Log(LogFault),
+    #[error("{0}")]
+    Pages(Refusal),
+}
+
+impl From<LogFault> for TableFault {
+    ghost from_gives = { λ fault e. e ≡ Log fault };
+
+    fn from(fault: LogFault) -> TableFault {
+        TableFault::Log(fault)
+    }
+}
+
+impl From<Refusal> for TableFault {
+    ghost from_gives = { λ why e. e ≡ Pages why };
+
+    fn from(why: Refusal) -> TableFault {
+        TableFault::Pages(why)
+    }
+}
+
+#[derive(Drop)]
+pub struct Table<S: Store, P: Port> {
+    pub pool: OwnedPool<SilentKeeper, P>,
+    pub log: LogFile<S>,
+}
+
+impl<S: Store, P: Port> Table<S, P> {
+    /// Makes each commit durable: syncs the log, and then raises the mark.
+    pub fn make_durable(&mut self) -> Result<(), TableFault>
+        ensures { (table file : List ℕ) (start records : ℕ) (synced : Trail)
+            (calls : List DeviceCall) (log_calls : List FileCall) (commits : List (List Record))
+            (pending : List Record) → IsTable table file start synced calls log_calls commits records
+            pending self.old.pool self.old.log →
+            TableGoes S.reads S.writes S.syncs P.read_gives P.write_gives P.sync_gives
+            self.old.pool self.new.pool self.old.log self.new.log table file start calls log_calls
+            (λ after n left. (after ≡ commits) × (left ≡ pending)
+            × OnOk result (n ≡ 1 + length commits)) }
+    {
+        if self.log.is_ended {
+            return Err(TableFault::Log(LogFault::Ended));
+        }
+        self.log.sync()?;
+        self.pool.mark(Lsn::new(self.log.next.saturating_sub(1)))?;
+        Ok(())
+    }
+
+    /// Fixes a page.
+    fn fix<R: Wait>(&mut self, rt: &R, page: PageNo) -> Result<Pass, Refusal>
+        ensures goes { (table file : List ℕ) (start records : ℕ) (synced : Trail)
+            (calls : List DeviceCall) (log_calls : List FileCall) (commits : List (List Record))
+            (pending : List Record) → IsTable table file start synced calls log_calls commits records
+            pending self.old.pool self.old.log →
+            TableGoes S.reads S.writes S.syncs P.read_gives P.write_gives P.sync_gives
+            self.old.pool self.new.pool self.old.log self.new.log table file start calls log_calls
+            (λ after n left. (after ≡ commits) × (left ≡ pending) × (n ≡ records)) }
+        ensures page { IfOk result (λ pass. pass.page ≡ page) }
+    {
+        let fixed = self.pool.fix(rt, page);
+        self.pool.core().keeps_the_rules();
+        fixed
+    }
+
+    /// Fixes a page. Where the page that is to leave for it waits for the log, that is made durable first.
+    fn fix_page<R: Wait>(&mut self, rt: &R, page: PageNo) -> Result<Pass, TableFault>
+        ensures goes { (table file : List ℕ) (start records : ℕ) (synced : Trail)
+            (calls : List DeviceCall) (log_calls : List FileCall) (commits : List (List Record))
+            (pending : List Record) → IsTable table file start synced calls log_calls commits records
+            pending self.old.pool self.old.log →
+            TableGoes S.reads S.writes S.syncs P.read_gives P.write_gives P.sync_gives
+            self.old.pool self.new.pool self.old.log self.new.log table file start calls log_calls
+            (λ after n left. (after ≡ commits) × (left ≡ pending)) }
+        ensures page { IfOk result (λ pass. pass.page ≡ page) }
+    {
+        match self.fix(rt, page) {
+            Ok(pass) => return Ok(pass),
+            Err(Refusal::NeedLog(_)) => {}
+            Err(why) => return Err(TableFault::Pages(why)),
+        }
+        self.make_durable()?;
+        Ok(self.fix(rt, page)?)
+    }
+
+    /// Makes the oldest change that is pending.
+    fn put<R: Wait>(&mut self, rt: &R, change: &LogRecord, lsn: u64) -> Result<(), TableFault>
+        ensures { (older : List Record) → (table file : List ℕ) (start records : ℕ) (synced : Trail)
+            (calls : List DeviceCall) (log_calls : List FileCall) (commits : List (List Record))
+            (pending : List Record) → IsTable table file start synced calls log_calls commits records
+            pending self.old.pool self.old.log →
+            pending ≡ older ++ under lsn change.now ∷ [] →
+            TableGoes S.reads S.writes S.syncs P.read_gives P.write_gives P.sync_gives
+            self.old.pool self.new.pool self.old.log self.new.log table file start calls log_calls
+            (λ after n left. (after ≡ commits) × ((left ≡ pending) ⊎ (left ≡ older))
+            × OnOk result (left ≡ older)) }
+    {
+        let pass = self.fix_page(rt, change.page)?;
+        let bytes = change.bytes.bytes();
+        let written = self.pool.write_from(&pass, change.offset, bytes, Lsn::new(lsn));
+        // A pass can't be dropped: one that does not go back is spent as a note.
+        let _ = self.pool.unfix(pass).map_err(|pass| pass.note());
+        Ok(written?)
+    }
+}
