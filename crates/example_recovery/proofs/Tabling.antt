@@ -1,5 +1,5 @@
 -- What each call of a table adds to it.
-use Rattle.std.proofs.Common.{◌≡◌, inl, inr, refl, sym, ap, subst, ◌∙◌, ℕ, suc, max, ◌+◌, ◌<◌, ◌≤◌, Bool, true, false, not, cond, ◌==◌, ◌&&◌, ◌||◌, List, [], ◌∷◌, ◌++◌, length, reverse, map, filter_map, Option, Some, None, append_assoc, append-nil, arith}
+use Rattle.std.proofs.Common.{◌≡◌, inl, inr, refl, sym, ap, subst, ◌∙◌, ℕ, suc, max, ◌+◌, ◌<◌, ◌≤◌, Bool, true, false, not, cond, ◌==◌, ◌&&◌, ◌||◌, List, [], ◌∷◌, ◌++◌, length, take, drop, get_or, reverse, map, filter_map, Option, Some, None, append_assoc, append-nil, arith}
 use Rattle.std.specs.Prelude.{◌⊎◌, Result, Ok, Err, OnOk}
 use Rattle.std.specs.Result.{IsErr}
 use Rattle.std.proofs.lemmas.Bool.{cases_lt}
@@ -13,7 +13,7 @@ use Rattle.bp_core.specs.declared.passes.Pass.{Pass}
 use Rattle.bp_device.specs.Drivers.{DrivesFix}
 use Rattle.std.specs.List.{cons_option}
 use Rattle.std.specs.Result.{is_ok}
-use Rattle.std.proofs.lemmas.List.{reverse-append, length-map, map_push}
+use Rattle.std.proofs.lemmas.List.{reverse-append, length-map, map_push, take_more, drop_more}
 use Rattle.bp_page.specs.declared.refusals.PortFault.{PortFault}
 use Rattle.bp_trail.specs.declared.entries.Entry.{Entry}
 use Rattle.bp_trail.specs.declared.entries.Call.{Call}
@@ -38,7 +38,7 @@ use Rattle.bp_trail.specs.Saved.{page_lsn}
 use Rattle.bp_device.specs.Owned.{ForPage, ForPart, IsTicked, IsUnticked, OwnedView, OwnerFixes}
 use Rattle.bp_ports.specs.Files.{Transfer, StoreSync}
 use Rattle.example_recovery.specs.declared.log.LogFile.{LogFile}
-use Rattle.example_recovery.specs.Commits.{AreChanges, AreCommits, changes_of, log_of, payload_of}
+use Rattle.example_recovery.specs.Commits.{IsChange, change_bytes, AreChanges, AreCommits, changes_of, log_of, payload_of}
 use Rattle.example_recovery.specs.Disk.{DeviceCall, Reads, Writes, Syncs, Did}
 use Rattle.example_recovery.specs.Disk.DeviceCall.{Read as DeviceRead, NotRead as DeviceNotRead, Write as DeviceWrite}
 use Rattle.example_recovery.specs.Files.{FileCall, FileDid}
@@ -47,7 +47,7 @@ use Rattle.example_recovery.specs.PoolLives.{PoolLife, ends_work}
 use Rattle.example_recovery.specs.PoolLives.PoolLife.{opened, entered, read, not_read, wrote}
 use Rattle.example_recovery.specs.Tables.{TableRan, writes_of}
 use Rattle.example_recovery.specs.TableCalls.{IsTable, TableGoes, under}
-use Rattle.example_recovery.proofs.CommitsRead.{commits-push, changes_of-push}
+use Rattle.example_recovery.proofs.CommitsRead.{commits-push, changes_of-push, changes-push, payload-push}
 use Rattle.example_recovery.specs.Lives.{LogLife}
 use Rattle.example_recovery.proofs.Lives.{life-is}
 use Rattle.example_recovery.proofs.LogFiles.{file-did-append}
@@ -451,3 +451,53 @@ module _ {S P : Type 0} (reads writes : Transfer S) (syncs : StoreSync S) (page_
         };
         is_so = p;
       }
+
+  -- the log refused a record: it has it, or has not
+  pub log-refuses : (new_log : LogFile S) (commit : List LogRecord) (A : List (List ℕ) → ℕ → Type 0) (so : List (List LogRecord) → ℕ → List LogRecord → Type 0) → pending ≡ [] → AreChanges (start + 1 + length commits) commit
+      → GoesOn reads writes syncs old_log new_log file start log_calls (λ after n. (n ≡ records) × A after n × ((after ≡ log_of table commits) ⊎ (after ≡ log_of table commits ++ payload_of commit ∷ [])))
+      → so commits records [] → so (commits ++ commit ∷ []) records (reverse commit)
+      → TableGoes reads writes syncs page_reads page_writes page_syncs old old old_log new_log table file start calls log_calls so
+  log-refuses new_log commit A so none are g p q = go g.is_so.2
+    where
+      go : (g.log ≡ log_of table commits) ⊎ (g.log ≡ log_of table commits ++ payload_of commit ∷ []) → TableGoes reads writes syncs page_reads page_writes page_syncs old old old_log new_log table file start calls log_calls so
+      go (inr e) = log-appends new_log commit so none are (record { more = g.more; log = g.log; durable = g.durable; did = g.did; is = g.is; is_so = (g.is_so.0, e) }) q
+      go (inl e) =
+          table-weaken reads writes syncs page_reads page_writes page_syncs table file start old old old_log new_log calls log_calls (λ after n left. (after ≡ commits) × (left ≡ pending) × (n ≡ records)) so
+          (λ cs n left h. subst (λ (c : List (List LogRecord)). so c n left) (sym h.0) (subst (λ (k : ℕ). so commits k left) (sym h.2) (subst (λ (l : List LogRecord). so commits records l) (sym (h.1 ∙ none)) p)))
+          (log-same new_log (record { more = g.more; log = g.log; durable = g.durable; did = g.did; is = g.is; is_so = (e, g.is_so.0) }))
+        where
+          log-same : (new_log : LogFile S) → GoesOn reads writes syncs old_log new_log file start log_calls (λ after n. (after ≡ log_of table commits) × (n ≡ records))
+              → TableGoes reads writes syncs page_reads page_writes page_syncs old old old_log new_log table file start calls log_calls (λ after n left. (after ≡ commits) × (left ≡ pending) × (n ≡ records))
+          log-same new_log g =
+              let there : IsLogFile file start (g.more ++ log_calls) (log_of table commits) records new_log =
+                  subst (λ (n : ℕ). IsLogFile file start (g.more ++ log_calls) (log_of table commits) n new_log) g.is_so.1 (subst (λ (xs : List (List ℕ)). IsLogFile file start (g.more ++ log_calls) xs g.durable new_log) g.is_so.0 g.is) in
+              record {
+                more = [];
+                more_log = g.more;
+                synced = synced;
+                commits = commits;
+                durable = records;
+                pending = pending;
+                did = refl;
+                log_did = g.did;
+                is = record {
+                  ran = record { log = there.life; are = is.ran.are; legal = is.ran.legal; pool = is.ran.pool; written = is.ran.written; mark = is.ran.mark; kept = is.ran.kept };
+                  file_is = there;
+                };
+                is_so = (refl, refl, refl);
+              }
+
+-- ---- the changes of a commit, one after the other
+
+pub payload-next : (lsn : ℕ) (xs : List LogRecord) (i : ℕ) (r : LogRecord) (old new : List ℕ) → i < length xs → r ≡ get_or xs i r → (old ≡ payload_of (map (under lsn) (take i xs))) × AreChanges lsn (map (under lsn) (take i xs)) → new ≡ old ++ change_bytes r
+    → IsChange lsn (under lsn r) → (new ≡ payload_of (map (under lsn) (take (i + 1) xs))) × AreChanges lsn (map (under lsn) (take (i + 1) xs))
+payload-next lsn xs i r old new below is so told fits =
+    let front : map (under lsn) (take (i + 1) xs) ≡ map (under lsn) (take i xs) ++ under lsn r ∷ [] =
+        ap (map (under lsn)) (take_more xs i r below ∙ ap (λ (x : LogRecord). take i xs ++ x ∷ []) (sym is)) ∙ map_push (under lsn) (take i xs) r in (
+      told ∙ ap (λ (t : List ℕ). t ++ change_bytes r) so.0 ∙ sym (ap payload_of front ∙ payload-push (map (under lsn) (take i xs)) (under lsn r)),
+      subst (AreChanges lsn) (sym front) (changes-push lsn (map (under lsn) (take i xs)) (under lsn r) so.1 fits),
+    )
+
+pub pending-next : (lsn : ℕ) (xs : List LogRecord) (i : ℕ) (r : LogRecord) → i < length xs → r ≡ get_or xs i r → reverse (map (under lsn) (drop i xs)) ≡ reverse (map (under lsn) (drop (i + 1) xs)) ++ under lsn r ∷ []
+pending-next lsn xs i r below is =
+    ap (λ (t : List LogRecord). reverse (map (under lsn) t)) (drop_more xs i r below ∙ ap (λ (x : LogRecord). x ∷ drop (i + 1) xs) (sym is)) ∙ reverse-append (under lsn r ∷ []) (map (under lsn) (drop (i + 1) xs))

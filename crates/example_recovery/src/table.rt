@@ -1,18 +1,22 @@
 //! A table: a pool for one owner, and a log in a file.
-ghost use Rattle.std.specs.Prelude.{◌≡◌, ◌⊎◌, ◌+◌, ◌++◌, ◌∷◌, [], ℕ, List, length, OnOk, IfOk};
+ghost use Rattle.std.specs.Prelude.{◌≡◌, ◌⊎◌, ◌+◌, ◌++◌, ◌∷◌, [], ℕ, false, List, length, map, OnOk, IfOk};
 ghost use Rattle.bp_trail.specs.declared.records.LogRecord.{LogRecord as Record};
 ghost use Rattle.bp_trail.specs.Trail.{Trail};
+ghost use Rattle.example_recovery.specs.Commits.{AreChanges, payload_of};
 ghost use Rattle.example_recovery.specs.Disk.{DeviceCall};
 ghost use Rattle.example_recovery.specs.Files.{FileCall};
 ghost use Rattle.example_recovery.specs.TableCalls.{IsTable, TableGoes, under};
+ghost use Rattle.example_recovery.specs.declared.log.LogFault.TheVariants.{Memory};
 ghost use Rattle.example_recovery.specs.declared.table.TableFault.TheVariants.{Log, Pages};
 
 use crate::log::{LogFault, LogFile};
+use crate::reading::put_change;
 use bp_core::{Pass, SilentKeeper};
 use bp_device::OwnedPool;
-use bp_page::{Lsn, PageNo, Refusal};
+use bp_page::{Geometry, Lsn, PageNo, Refusal};
 use bp_ports::{Port, Store};
 use bp_trail::LogRecord;
+use std::alloc::{AllocError, Global};
 use std::sync::Wait;
 use thiserror::Error;
 
@@ -33,6 +37,14 @@ impl From<LogFault> for TableFault {
     }
 }
 
+impl From<AllocError> for TableFault {
+    ghost from_gives = { λ _ e. e ≡ Log Memory };
+
+    fn from(_: AllocError) -> TableFault {
+        TableFault::Log(LogFault::Memory)
+    }
+}
+
 impl From<Refusal> for TableFault {
     ghost from_gives = { λ why e. e ≡ Pages why };
 
@@ -41,10 +53,30 @@ impl From<Refusal> for TableFault {
     }
 }
 
+/// Returns the payload of a commit. `OutOfPage` where a change does not lie within a page of the file.
+fn payload(alloc: Global, device: &Geometry, changes: &[LogRecord]) -> Result<Vec<u8>, TableFault>
+    ensures { IfOk result (λ v. (lsn : ℕ) → (v.items ≡ payload_of (map (under lsn) changes.now))
+        × AreChanges lsn (map (under lsn) changes.now)) }
+{
+    let mut payload = Vec::new(alloc);
+    for change in changes {
+        if change.page.number() >= device.pages {
+            return Err(TableFault::Pages(Refusal::OutOfPage));
+        }
+        if !device.fits(change.offset as usize, change.bytes.bytes().len()) {
+            return Err(TableFault::Pages(Refusal::OutOfPage));
+        }
+        put_change(&mut payload, change)?;
+    }
+    Ok(payload)
+}
+
 #[derive(Drop)]
 pub struct Table<S: Store, P: Port> {
     pub pool: OwnedPool<SilentKeeper, P>,
     pub log: LogFile<S>,
+    /// Whether a commit was refused after it began: the table has to be opened again.
+    pub is_ended: bool,
 }
 
 impl<S: Store, P: Port> Table<S, P> {
@@ -121,5 +153,51 @@ impl<S: Store, P: Port> Table<S, P> {
         // A pass can't be dropped: one that does not go back is spent as a note.
         let _ = self.pool.unfix(pass).map_err(|pass| pass.note());
         Ok(written?)
+    }
+
+    /// Commits changes, which may lie in several pages, and returns the LSN of the commit: the changes' own are not
+    /// looked at. A crash leaves all of them or none, and all once `make_durable` has passed. `OutOfPage` and `Memory`
+    /// before the commit began change nothing. After any other refusal the table has ended, and is to be opened again.
+    pub fn commit<R: Wait>(
+        &mut self,
+        rt: &R,
+        alloc: Global,
+        changes: &[LogRecord],
+    ) -> Result<u64, TableFault>
+        ensures { (table file : List ℕ) (start records : ℕ) (synced : Trail)
+            (calls : List DeviceCall) (log_calls : List FileCall) (commits : List (List Record)) →
+            IsTable table file start synced calls log_calls commits records [] self.old.pool
+            self.old.log →
+            TableGoes S.reads S.writes S.syncs P.read_gives P.write_gives P.sync_gives
+            self.old.pool self.new.pool self.old.log self.new.log table file start calls log_calls
+            (λ after n left. ((after ≡ commits)
+            ⊎ (after ≡ commits ++ map (under (start + 1 + length commits)) changes.now ∷ []))
+            × (self.new.is_ended ≡ false → left ≡ [])
+            × IfOk result (λ lsn. (lsn ≡ start + 1 + length commits) × (self.new.is_ended ≡ false)
+            × (after ≡ commits ++ map (under lsn) changes.now ∷ []))) }
+    {
+        if self.is_ended {
+            return Err(TableFault::Log(LogFault::Ended));
+        }
+        let device = self.pool.port().geometry();
+        let payload = payload(alloc, &device, changes)?;
+        let lsn = match self.log.append(alloc, &payload) {
+            Ok(lsn) => lsn,
+            Err(fault) => {
+                self.is_ended = true;
+                return Err(TableFault::Log(fault));
+            }
+        };
+        for change in changes {
+            match self.put(rt, change, lsn) {
+                Ok(()) => {}
+                Err(fault) => {
+                    self.is_ended = true;
+                    return Err(fault);
+                }
+            }
+        }
+        self.is_ended = false;
+        Ok(lsn)
     }
 }
