@@ -1,5 +1,5 @@
 -- What each call of a table adds to it.
-use Rattle.std.proofs.Common.{◌≡◌, inl, inr, refl, sym, ap, subst, ◌∙◌, ℕ, suc, max, ◌+◌, ◌<◌, ◌≤◌, Bool, true, false, not, cond, ◌==◌, ◌&&◌, ◌||◌, List, [], ◌∷◌, ◌++◌, length, take, drop, get_or, reverse, map, filter_map, Option, Some, None, append_assoc, append-nil, arith}
+use Rattle.std.proofs.Common.{◌≡◌, inl, inr, refl, sym, ap, subst, ◌∙◌, ℕ, max, ◌+◌, ◌<◌, ◌≤◌, Bool, true, false, not, cond, ◌==◌, ◌&&◌, ◌||◌, List, [], ◌∷◌, ◌++◌, length, take, drop, get_or, reverse, map, filter_map, Option, None, append_assoc, arith}
 use Rattle.std.specs.Prelude.{◌⊎◌, Result, Ok, Err, OnOk}
 use Rattle.std.specs.Result.{IsErr}
 use Rattle.std.proofs.lemmas.Bool.{cases_lt}
@@ -12,13 +12,11 @@ use Rattle.bp_core.specs.Outcomes.{Adds, StepOutcome, TickOutcome, WriteOutcome,
 use Rattle.bp_core.specs.declared.passes.Pass.{Pass}
 use Rattle.bp_device.specs.Drivers.{DrivesFix}
 use Rattle.std.specs.List.{cons_option}
-use Rattle.std.specs.Result.{is_ok}
 use Rattle.std.proofs.lemmas.List.{reverse-append, length-map, map_push, take_more, drop_more}
 use Rattle.bp_page.specs.declared.refusals.PortFault.{PortFault}
 use Rattle.bp_trail.specs.declared.entries.Entry.{Entry}
 use Rattle.bp_trail.specs.declared.entries.Call.{Call}
 use Rattle.bp_trail.specs.declared.entries.Call.TheVariants.{Tick, Mark, Fix, ReadEnd, WriteEnd, Read, Write, Unfix, Flush, Discard, Purge}
-use Rattle.bp_trail.specs.declared.entries.Reply.{Reply}
 use Rattle.bp_trail.specs.declared.entries.Reply.TheVariants.{Done, WriteFirst}
 use Rattle.bp_trail.specs.declared.records.LogRecord.{LogRecord}
 use Rattle.bp_trail.specs.Lists.{some, greatest}
@@ -38,14 +36,14 @@ use Rattle.bp_trail.specs.Saved.{page_lsn}
 use Rattle.bp_device.specs.Owned.{ForPage, ForPart, IsTicked, IsUnticked, OwnedView, OwnerFixes}
 use Rattle.bp_ports.specs.Files.{Transfer, StoreSync}
 use Rattle.example_recovery.specs.declared.log.LogFile.{LogFile}
-use Rattle.example_recovery.specs.Commits.{IsChange, change_bytes, AreChanges, AreCommits, changes_of, log_of, payload_of}
+use Rattle.example_recovery.specs.Commits.{IsChange, change_bytes, AreChanges, changes_of, log_of, payload_of}
 use Rattle.example_recovery.specs.Disk.{DeviceCall, Reads, Writes, Syncs, Did}
 use Rattle.example_recovery.specs.Disk.DeviceCall.{Read as DeviceRead, NotRead as DeviceNotRead, Write as DeviceWrite}
-use Rattle.example_recovery.specs.Files.{FileCall, FileDid}
+use Rattle.example_recovery.specs.Files.{FileCall}
 use Rattle.example_recovery.specs.LogFiles.{IsLogFile, GoesOn}
 use Rattle.example_recovery.specs.PoolLives.{PoolLife, ends_work}
 use Rattle.example_recovery.specs.PoolLives.PoolLife.{opened, entered, read, not_read, wrote}
-use Rattle.example_recovery.specs.Tables.{TableRan, writes_of}
+use Rattle.example_recovery.specs.Tables.{writes_of}
 use Rattle.example_recovery.specs.TableCalls.{IsTable, TableGoes, under}
 use Rattle.example_recovery.proofs.CommitsRead.{commits-push, changes_of-push, changes-push, payload-push}
 use Rattle.example_recovery.specs.Lives.{LogLife}
@@ -397,7 +395,7 @@ module _ {S P : Type 0} (reads writes : Transfer S) (syncs : StoreSync S) (page_
       let past : new.core.past ≡ e ∷ old.core.past = ap (λ (x : CoreView). x.past) adds.is in
       let same : record_of e.call ≡ r = ap (λ (n : ℕ). record { page = n; offset = r.offset; bytes = r.bytes; lsn = r.lsn }) page in
       let moved : reverse (changes_of commits) ≡ older ++ r ∷ writes_of old.core.past =
-          is.ran.written ∙ ap (λ (xs : List LogRecord). xs ++ writes_of old.core.past) told ∙ append_assoc older (r ∷ []) (writes_of old.core.past) in
+      is.ran.written ∙ ap (λ (xs : List LogRecord). xs ++ writes_of old.core.past) told ∙ append_assoc older (r ∷ []) (writes_of old.core.past) in
       pool-goes reads writes syncs page_reads page_writes page_syncs table file start synced calls log_calls commits records pending old old_log is new [] older so adds.legal
       (subst (λ (t : Trail). PoolLife t calls synced) (sym past) (entered e refl is.ran.pool)) port
       (moved ∙ ap (λ (x : LogRecord). older ++ x ∷ writes_of old.core.past) (sym same) ∙ ap (λ (t : Trail). older ++ writes_of t) (sym past))
@@ -426,7 +424,7 @@ module _ {S P : Type 0} (reads writes : Transfer S) (syncs : StoreSync S) (page_
       let pushed : log_of table (commits ++ commit ∷ []) ≡ log_of table commits ++ payload_of commit ∷ [] = ap (λ (t : List (List ℕ)). table ∷ t) (map_push payload_of commits commit) in
       let log-is : g.log ≡ log_of table (commits ++ commit ∷ []) = g.is_so.1 ∙ sym pushed in
       let there : IsLogFile file start (g.more ++ log_calls) (log_of table (commits ++ commit ∷ [])) records new_log =
-          subst (λ (n : ℕ). IsLogFile file start (g.more ++ log_calls) (log_of table (commits ++ commit ∷ [])) n new_log) g.is_so.0 (subst (λ (xs : List (List ℕ)). IsLogFile file start (g.more ++ log_calls) xs g.durable new_log) log-is g.is) in
+      subst (λ (n : ℕ). IsLogFile file start (g.more ++ log_calls) (log_of table (commits ++ commit ∷ [])) n new_log) g.is_so.0 (subst (λ (xs : List (List ℕ)). IsLogFile file start (g.more ++ log_calls) xs g.durable new_log) log-is g.is) in
       record {
         more = [];
         more_log = g.more;
@@ -470,7 +468,7 @@ module _ {S P : Type 0} (reads writes : Transfer S) (syncs : StoreSync S) (page_
               → TableGoes reads writes syncs page_reads page_writes page_syncs old old old_log new_log table file start calls log_calls (λ after n left. (after ≡ commits) × (left ≡ pending) × (n ≡ records))
           log-same new_log g =
               let there : IsLogFile file start (g.more ++ log_calls) (log_of table commits) records new_log =
-                  subst (λ (n : ℕ). IsLogFile file start (g.more ++ log_calls) (log_of table commits) n new_log) g.is_so.1 (subst (λ (xs : List (List ℕ)). IsLogFile file start (g.more ++ log_calls) xs g.durable new_log) g.is_so.0 g.is) in
+              subst (λ (n : ℕ). IsLogFile file start (g.more ++ log_calls) (log_of table commits) n new_log) g.is_so.1 (subst (λ (xs : List (List ℕ)). IsLogFile file start (g.more ++ log_calls) xs g.durable new_log) g.is_so.0 g.is) in
               record {
                 more = [];
                 more_log = g.more;
@@ -493,7 +491,7 @@ pub payload-next : (lsn : ℕ) (xs : List LogRecord) (i : ℕ) (r : LogRecord) (
     → IsChange lsn (under lsn r) → (new ≡ payload_of (map (under lsn) (take (i + 1) xs))) × AreChanges lsn (map (under lsn) (take (i + 1) xs))
 payload-next lsn xs i r old new below is so told fits =
     let front : map (under lsn) (take (i + 1) xs) ≡ map (under lsn) (take i xs) ++ under lsn r ∷ [] =
-        ap (map (under lsn)) (take_more xs i r below ∙ ap (λ (x : LogRecord). take i xs ++ x ∷ []) (sym is)) ∙ map_push (under lsn) (take i xs) r in (
+    ap (map (under lsn)) (take_more xs i r below ∙ ap (λ (x : LogRecord). take i xs ++ x ∷ []) (sym is)) ∙ map_push (under lsn) (take i xs) r in (
       told ∙ ap (λ (t : List ℕ). t ++ change_bytes r) so.0 ∙ sym (ap payload_of front ∙ payload-push (map (under lsn) (take i xs)) (under lsn r)),
       subst (AreChanges lsn) (sym front) (changes-push lsn (map (under lsn) (take i xs)) (under lsn r) so.1 fits),
     )
@@ -501,3 +499,20 @@ payload-next lsn xs i r old new below is so told fits =
 pub pending-next : (lsn : ℕ) (xs : List LogRecord) (i : ℕ) (r : LogRecord) → i < length xs → r ≡ get_or xs i r → reverse (map (under lsn) (drop i xs)) ≡ reverse (map (under lsn) (drop (i + 1) xs)) ++ under lsn r ∷ []
 pending-next lsn xs i r below is =
     ap (λ (t : List LogRecord). reverse (map (under lsn) t)) (drop_more xs i r below ∙ ap (λ (x : LogRecord). x ∷ drop (i + 1) xs) (sym is)) ∙ reverse-append (under lsn r ∷ []) (map (under lsn) (drop (i + 1) xs))
+
+-- ---- a table that begins
+
+pub table-begins : {S P : Type 0} (table file : List ℕ) (start : ℕ) (log_calls : List FileCall) (pool : OwnedView P) (log : LogFile S) → pool.core.past ≡ [] → IsLogFile file start log_calls (table ∷ []) 1 log
+    → IsTable table file start [] [] log_calls [] 1 [] pool log
+table-begins table file start log_calls pool log none is = record {
+  ran = record {
+    log = is.life;
+    are = tt;
+    legal = subst (λ (t : Trail). Legal pool.core.parameters t) (sym none) tt;
+    pool = subst (λ (t : Trail). PoolLife t [] []) (sym none) opened;
+    written = ap writes_of (sym none);
+    mark = subst (λ (t : Trail). durable t < start + 1) (sym none) (omega arith);
+    kept = λ p. ap (some (discards p)) none;
+  };
+  file_is = is;
+}

@@ -1,5 +1,5 @@
 -- What the calls of a table do to it.
-use Rattle.std.specs.Prelude.{◌≡◌, ℕ, not, List, ◌++◌, map}
+use Rattle.std.specs.Prelude.{ℕ, not, List, ◌++◌}
 use Rattle.bp_device.specs.Owned.{OwnedView}
 use Rattle.bp_ports.specs.Files.{Transfer, StoreSync}
 use Rattle.bp_trail.specs.declared.records.LogRecord.{LogRecord}

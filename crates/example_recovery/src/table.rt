@@ -5,13 +5,14 @@ ghost use Rattle.bp_trail.specs.Trail.{Trail};
 ghost use Rattle.example_recovery.specs.Commits.{AreChanges, payload_of};
 ghost use Rattle.example_recovery.specs.Disk.{DeviceCall};
 ghost use Rattle.example_recovery.specs.Files.{FileCall};
+ghost use Rattle.example_recovery.specs.LogFiles.{IsLogFile};
 ghost use Rattle.example_recovery.specs.TableCalls.{IsTable, TableGoes, under};
 ghost use Rattle.example_recovery.specs.declared.log.LogFault.TheVariants.{Memory};
 ghost use Rattle.example_recovery.specs.declared.table.TableFault.TheVariants.{Log, Pages};
 
 use crate::log::{LogFault, LogFile};
 use crate::reading::put_change;
-use bp_core::{Pass, SilentKeeper};
+use bp_core::{Pass, Settings, SilentKeeper};
 use bp_device::OwnedPool;
 use bp_page::{Geometry, Lsn, PageNo, Refusal};
 use bp_ports::{Port, Store};
@@ -53,6 +54,9 @@ impl From<Refusal> for TableFault {
     }
 }
 
+/// The entries for which the pool's silent keeper has room.
+const ROOM: usize = 1 << 60;
+
 /// Returns the payload of a commit. `OutOfPage` where a change does not lie within a page of the file.
 fn payload(alloc: Global, device: &Geometry, changes: &[LogRecord]) -> Result<Vec<u8>, TableFault>
     ensures { IfOk result (λ v. (lsn : ℕ) → (v.items ≡ payload_of (map (under lsn) changes.now))
@@ -80,6 +84,28 @@ pub struct Table<S: Store, P: Port> {
 }
 
 impl<S: Store, P: Port> Table<S, P> {
+    /// Begins with the pages as they are, once they are redone, and a log in which one record names the table. Refused
+    /// as `OwnedPool::over` is; port and log are then dropped.
+    pub fn begin(
+        alloc: Global,
+        port: P,
+        settings: Settings,
+        frames: usize,
+        log: LogFile<S>,
+    ) -> Result<Table<S, P>, TableFault>
+        ensures { IfOk result (λ made. (made.pool.port ≡ port) × (made.is_ended ≡ false)
+            × ((table file : List ℕ) (start : ℕ) (log_calls : List FileCall) →
+            IsLogFile file start log_calls (table ∷ []) 1 log →
+            IsTable table file start [] [] log_calls [] 1 [] made.pool made.log)) }
+    {
+        let pool = OwnedPool::over(alloc, port, settings, frames, ROOM)?;
+        Ok(Table {
+            pool,
+            log,
+            is_ended: false,
+        })
+    }
+
     /// Makes each commit durable: syncs the log, and then raises the mark.
     pub fn make_durable(&mut self) -> Result<(), TableFault>
         ensures { (table file : List ℕ) (start records : ℕ) (synced : Trail)
@@ -149,7 +175,9 @@ impl<S: Store, P: Port> Table<S, P> {
     {
         let pass = self.fix_page(rt, change.page)?;
         let bytes = change.bytes.bytes();
-        let written = self.pool.write_from(&pass, change.offset, bytes, Lsn::new(lsn));
+        let written = self
+            .pool
+            .write_from(&pass, change.offset, bytes, Lsn::new(lsn));
         // A pass can't be dropped: one that does not go back is spent as a note.
         let _ = self.pool.unfix(pass).map_err(|pass| pass.note());
         Ok(written?)

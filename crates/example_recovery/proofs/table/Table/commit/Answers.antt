@@ -1,4 +1,4 @@
-use Rattle.std.proofs.Common.{◌≡◌, ◌+◌, ◌++◌, ◌∷◌, [], ℕ, List, length, map, reverse, drop, inl, inr, refl, sym, ap, subst, ◌∙◌, arith}
+use Rattle.std.proofs.Common.{◌≡◌, ◌+◌, ◌++◌, ◌∷◌, [], ℕ, List, length, map, reverse, drop, inl, inr, refl, ap, subst, ◌∙◌, arith}
 use Rattle.std.specs.Prelude.{◌⊎◌}
 use Rattle.std.proofs.lemmas.List.{length-map, drop_all}
 use Rattle.bp_trail.specs.declared.records.LogRecord.{LogRecord}
@@ -39,7 +39,7 @@ loop-change-init g c = λ table file start records synced calls log_calls commit
     let lsn-is = count table commits start c.in-Ok.lsn life.is_so.1.0 in (
       lsn-is,
       log-appends g.S.Store.reads g.S.Store.writes g.S.Store.syncs g.P.Port.read_gives g.P.Port.write_gives g.P.Port.sync_gives table file start synced calls log_calls commits records [] c.args.self.now.pool c.args.self.now.log is c.append.new.self (map (under c.in-Ok.lsn) c.args.changes.now) _ refl (subst (λ (n : ℕ). AreChanges n (map (under c.in-Ok.lsn) c.args.changes.now)) lsn-is told.1)
-      (weaken g.S.Store.reads g.S.Store.writes g.S.Store.syncs c.args.self.now.log c.append.new.self file start log_calls _ _ (λ x n p. (p.0, p.1.1 ∙ ap (λ (t : List ℕ). log_of table commits ++ t ∷ []) (c.deref.ensures.value ∙ told.0))) life) (refl, refl),
+          (weaken g.S.Store.reads g.S.Store.writes g.S.Store.syncs c.args.self.now.log c.append.new.self file start log_calls _ _ (λ x n p. (p.0, p.1.1 ∙ ap (λ (t : List ℕ). log_of table commits ++ t ∷ []) (c.deref.ensures.value ∙ told.0))) life) (refl, refl),
     ))
 
 pub returns-in-Err-put : goal.returns-in-Err-put
@@ -50,7 +50,7 @@ returns-in-Err-put g c = λ table file start records synced calls log_calls comm
     let changes = c.args.changes.now in
     let i = c.loop-change.change-index in
     let p = c.put.ensures (reverse (map u (drop (i + 1) changes))) table file start t.durable t.synced (t.more ++ calls) (t.more_log ++ log_calls) t.commits t.pending t.is
-        (t.is_so.1 ∙ pending-next c.in-Ok.lsn changes i c.change-item.result c.loop-change-test.true c.change-item.is) in
+    (t.is_so.1 ∙ pending-next c.in-Ok.lsn changes i c.change-item.result c.loop-change-test.true c.change-item.is) in
     table-then g.S.Store.reads g.S.Store.writes g.S.Store.syncs g.P.Port.read_gives g.P.Port.write_gives g.P.Port.sync_gives table file start c.args.self.now.pool c.loop-change.self.pool c.put.new.self.pool c.args.self.now.log c.loop-change.self.log c.put.new.self.log calls log_calls _ _ t
     (table-weaken g.S.Store.reads g.S.Store.writes g.S.Store.syncs g.P.Port.read_gives g.P.Port.write_gives g.P.Port.sync_gives table file start _ _ _ _ (t.more ++ calls) (t.more_log ++ log_calls) _ _ (λ cs n left q. (inr (q.0 ∙ t.is_so.0 ∙ ap (λ (n : ℕ). commits ++ map (under n) changes ∷ []) v.0), (λ e. absurd (cc)), tt)) p))
 
@@ -62,9 +62,11 @@ loop-change-preserved g c = λ table file start records synced calls log_calls c
     let changes = c.args.changes.now in
     let i = c.loop-change.change-index in
     let p = c.in-Ok-put.ensures (reverse (map u (drop (i + 1) changes))) table file start t.durable t.synced (t.more ++ calls) (t.more_log ++ log_calls) t.commits t.pending t.is
-        (t.is_so.1 ∙ pending-next c.in-Ok.lsn changes i c.change-item.result c.loop-change-test.true c.change-item.is) in
-    (v.0, table-then g.S.Store.reads g.S.Store.writes g.S.Store.syncs g.P.Port.read_gives g.P.Port.write_gives g.P.Port.sync_gives table file start c.args.self.now.pool c.loop-change.self.pool c.put.new.self.pool c.args.self.now.log c.loop-change.self.log c.put.new.self.log calls log_calls _ _ t
-    (table-weaken g.S.Store.reads g.S.Store.writes g.S.Store.syncs g.P.Port.read_gives g.P.Port.write_gives g.P.Port.sync_gives table file start _ _ _ _ (t.more ++ calls) (t.more_log ++ log_calls) _ _ (λ cs n left q. (q.0 ∙ t.is_so.0, q.2)) p)))
+    (t.is_so.1 ∙ pending-next c.in-Ok.lsn changes i c.change-item.result c.loop-change-test.true c.change-item.is) in (
+      v.0,
+      table-then g.S.Store.reads g.S.Store.writes g.S.Store.syncs g.P.Port.read_gives g.P.Port.write_gives g.P.Port.sync_gives table file start c.args.self.now.pool c.loop-change.self.pool c.put.new.self.pool c.args.self.now.log c.loop-change.self.log c.put.new.self.log calls log_calls _ _ t
+          (table-weaken g.S.Store.reads g.S.Store.writes g.S.Store.syncs g.P.Port.read_gives g.P.Port.write_gives g.P.Port.sync_gives table file start _ _ _ _ (t.more ++ calls) (t.more_log ++ log_calls) _ _ (λ cs n left q. (q.0 ∙ t.is_so.0, q.2)) p),
+    ))
 
 pub returns : goal.returns
 returns g c = λ table file start records synced calls log_calls commits is.
