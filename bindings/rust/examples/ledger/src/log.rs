@@ -79,8 +79,6 @@ impl Log {
         if size != fixed[3] {
             return bad(format!("the log has {size} bytes, and not {}", fixed[3]));
         }
-        // What a process wrote that was killed may be in the system's memory alone.
-        device.sync()?;
         let mut log = Log {
             device,
             fixed,
@@ -100,10 +98,14 @@ impl Log {
         let mut is_torn = false;
         for [.., turn, start, _] in marks.into_iter().filter(|mark| mark[5] >= redo) {
             let mut end = start;
+            // What a process wrote that has ended may be in the system's memory alone, and if its sync failed no
+            // later one keeps it: so each record is written once more, before its pages are.
             is_torn |= log.each([turn, start, u64::MAX], |lsn, record| {
                 end = lsn + record.len() as u64;
-                Ok(())
+                let place = turn % 2 * (size / 2) + MARK + lsn - start;
+                Ok(log.device.write_all_at(record, place)?)
             })?;
+            log.device.sync()?;
             // Records came here only once those before the mark were durable.
             let older = log.redone.last().map_or(start, |half| half[2]);
             if older < start && start < end {

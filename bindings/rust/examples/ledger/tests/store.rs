@@ -268,3 +268,55 @@ fn the_power_fails_in_a_start_after_a_kill() {
         assert!((made..ROWS).all(|row| !is_made(row)), "at cut {cut}");
     }
 }
+
+/// The sync of a commit fails, and the process ends. Then the power fails at each request of the next start, which
+/// finds the record in the system's memory, where no later sync keeps it.
+#[test]
+fn the_power_fails_in_a_start_after_a_sync_that_failed() {
+    for seed in 0..8 {
+        let count = (1..).take_while(|cut| is_cut_in_a_start(1_000 * seed + cut, *cut));
+        assert!(count.count() > 5);
+    }
+}
+
+/// Whether the start had so many requests. If so, all rows are there after it was cut.
+fn is_cut_in_a_start(seed: u64, cut: u64) -> bool {
+    const ROWS: u64 = 100;
+    let disk = Disk::new(seed);
+    let (pages, log) = (device(&disk, "pages"), device(&disk, "log"));
+    Store::create(&*pages, &*log, [60, 1024, 80_000]).unwrap();
+    let store = opened_on(&disk).unwrap();
+    let put = |key, byte| {
+        let ((), lsn) = store.transact(|it| it.put(key, &[byte; 100])).unwrap();
+        store.make_durable(lsn)
+    };
+    for key in 0..ROWS {
+        put(key, 1).unwrap();
+    }
+    for _ in 0..3 {
+        store.checkpoint().unwrap();
+    }
+    disk.set_fault(Some(Fault::Sync(1)));
+    put(ROWS / 2, 2).unwrap_err();
+    drop(store);
+    disk.restart();
+    disk.set_fault(Some(Fault::Cut(cut)));
+    let started = opened_on(&disk);
+    if !disk.is_off() {
+        started.unwrap();
+        return false;
+    }
+    disk.lose_power();
+    disk.set_fault(None);
+    let store = opened_on(&disk).unwrap();
+    for key in 0..ROWS {
+        let found = store.get(key).unwrap();
+        let is_later = key == ROWS / 2 && found == Some(vec![2; 100]);
+        assert!(
+            found == Some(vec![1; 100]) || is_later,
+            "row {key} at cut {cut}"
+        );
+    }
+    store.verify().unwrap();
+    true
+}
