@@ -1,8 +1,9 @@
 #!/usr/bin/env python3
-"""Runs `bench pool` or `bench threads` and Berkeley DB's memory pool in turn, over the same pages; prints the ratios.
+"""Runs `bench pool` or bench_threads and Berkeley DB's memory pool in turn, over the same pages; prints the ratios.
 
     apt-get install libdb5.3-dev           (a C compiler is needed too)
     (cd crates/bench && rt run)            builds the bench, and makes its long runs of seconds
+    (cd crates/bench_threads && rt run)    builds that of threads
     peers/side_by_side.py ROUNDS [ROOM ..]
     peers/side_by_side.py threads ROUNDS
 
@@ -28,6 +29,7 @@ import tempfile
 
 TOP = os.path.dirname(os.path.dirname(os.path.realpath(__file__)))
 BENCH = f"{TOP}/crates/bench/out/bench"
+BENCH_THREADS = f"{TOP}/crates/bench_threads/out/bench_threads"
 FILE_BYTES = 268435456
 # What Berkeley DB is measured with: pages of the file, frames such that the hit rate is the same, hot pages.
 PEER = [
@@ -40,7 +42,7 @@ PEER = [
 ]
 
 
-# The rows of `bench threads` for each number of threads: a name, the period in ticks, and what peers/c/bench.c does
+# The rows of bench_threads for each number of threads: a name, the period in ticks, and what peers/c/bench.c does
 # with how many frames.
 THREADS = (1, 2, 4)
 USES = [
@@ -76,9 +78,10 @@ def theirs(mpool, folder):
 
 
 def ours_in_threads(pages, kind, folder):
-    found = re.findall(r"(\d+) threads, \d+ pages, period (\d+): (\d+) a second", said([BENCH, "threads", pages, *kind], folder))
+    told = said([BENCH_THREADS, pages, *kind], folder)
+    found = re.findall(r"(\d+) threads, \d+ pages, period (\d+): (\d+) a second", told)
     if [(int(threads), int(period)) for threads, period, _ in found] != [(n, use[1]) for n in THREADS for use in USES]:
-        sys.exit("side_by_side.py: `bench threads` has other rows")
+        sys.exit("side_by_side.py: bench_threads has other rows")
     return [int(rate) for _, _, rate in found]
 
 

@@ -1,16 +1,15 @@
 //! Measures a core or a pool, as its first argument says. docs/BENCHMARKS.md has the results.
 //!
-//!     bench                            both long runs, and threads for a moment: what `stdout` has
+//!     bench                            both long runs: what `stdout` has
 //!     bench cut | uncut                the first long run, with a trail that is cut as it goes, or has room for all
 //!     bench silent ROUNDS SIZE         the second, of so many rounds over pages of so many bytes
 //!     bench calls FRAMES               each call of a core of so many frames
 //!     bench pool FILE [ROOM | silent]  fixes and unfixes over a page file
-//!     bench threads FILE [silent]      uses of pages by 1, 2 and 4 threads over one page file
 //!
 //! Pages are used in pools of three sizes, with a correlated period of an eighth of the frames and, where pages are
 //! evicted, with none too. With a room the trail is cut each time it is half full, and continues in the memory of the
-//! piece before; without one it is never cut. With `silent` the core only counts its entries. Threads share a pool of
-//! 4,096 frames, and cut it as they go. Other words, and fewer, are an error.
+//! piece before; without one it is never cut. With `silent` the core only counts its entries. Other words, and fewer,
+//! are an error.
 #![tactic(auto)]
 
 ghost use Rattle.std.specs.Prelude.{◌<◌};
@@ -18,18 +17,15 @@ ghost use Rattle.std.specs.Prelude.{◌<◌};
 mod calls;
 mod long_run;
 mod pool;
-mod threads;
 
 use anyhow::Context;
 use bp_core::{Keeper, RecordingKeeper, SilentKeeper};
 use std::alloc::Global;
 use std::env;
 use std::fs::File;
-use std::marker::{Send, Sync};
 use std::rt::{Files, Runtime};
 use std::sync::Wait;
-use std::thread::Threads;
-use std::time::{Clock, CpuClock, Duration};
+use std::time::{CpuClock, Duration};
 
 // The room of a trail that is never cut.
 const GREAT_ROOM: usize = 10000000;
@@ -72,19 +68,6 @@ fn time_pool_of_room(
     }
 }
 
-/// Times threads over a page file, by a pool that is cut, or only counted.
-fn time_threads(
-    rt: &(impl Runtime<A = Global> + Clock + Files<File = File> + Threads + Wait + Send + Sync),
-    path: &str,
-    kind: Option<&str>,
-) -> Result<(), anyhow::Error> {
-    match kind {
-        None => threads::time_threads::<RecordingKeeper>(rt, path),
-        Some("silent") => threads::time_threads::<SilentKeeper>(rt, path),
-        _ => None.context("no such pool"),
-    }
-}
-
 fn number(word: Option<&str>) -> Result<u64, anyhow::Error> {
     let word = word.context("a number is missing")?;
     Ok(word.parse::<u64>()?)
@@ -92,14 +75,7 @@ fn number(word: Option<&str>) -> Result<u64, anyhow::Error> {
 
 /// Measures what the words of the command line say.
 fn measure(
-    rt: &(impl Runtime<A = Global>
-        + Clock
-        + CpuClock
-        + Files<File = File>
-        + Threads
-        + Wait
-        + Send
-        + Sync),
+    rt: &(impl Runtime<A = Global> + CpuClock + Files<File = File> + Wait),
     what: &str,
     of: Option<&str>,
     more: Option<&str>,
@@ -110,7 +86,6 @@ fn measure(
         "silent" => long_run::run_silent(rt, number(of)?, number(more)? as usize),
         "calls" => calls::time_calls(rt, number(of)?),
         "pool" => time_pool_of_room(rt, of.context("no page file is named")?, more),
-        "threads" => time_threads(rt, of.context("no page file is named")?, more),
         _ => None.context("no such measurement"),
     }
 }
@@ -119,11 +94,7 @@ fn main(rt: HostRuntime) -> Result<(), anyhow::Error> {
     let mut words = env::args(&rt)?.skip(1);
     let (what, of, more) = (words.next(), words.next(), words.next());
     match what {
-        None => {
-            long_run::run_both(&rt)?;
-            threads::try_threads::<RecordingKeeper>(&rt)?;
-            threads::try_threads::<SilentKeeper>(&rt)
-        }
+        None => long_run::run_both(&rt),
         Some(what) => measure(&rt, what.as_str(), of.as_deref(), more.as_deref()),
     }
 }

@@ -1,6 +1,6 @@
 -- The session is that client's still.
 use Rattle.std.proofs.Common.{◌≡◌}
-use Rattle.bench.proofs.threads.Caller.part.Given as goal
+use Rattle.bench_threads.proofs.threads.Caller.part.Given as goal
 
 abbrev pub invariant-calls : goal.invariant-calls
 invariant-calls g l = l.own.session.client ≡ l.initial.own.session.client

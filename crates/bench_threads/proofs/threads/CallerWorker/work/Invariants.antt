@@ -1,6 +1,6 @@
 -- The session is that client's still.
 use Rattle.std.proofs.Common.{◌≡◌}
-use Rattle.bench.proofs.threads.CallerWorker.lead.Given as goal
+use Rattle.bench_threads.proofs.threads.CallerWorker.work.Given as goal
 
 abbrev pub invariant-first_parts : goal.invariant-first_parts
 invariant-first_parts g l = l.own.session.client ≡ l.initial.own.session.client
