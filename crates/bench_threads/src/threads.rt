@@ -357,12 +357,7 @@ fn run<
     K: Kind + Tended,
     P: Port + Send,
     R: Runtime<A = Global> + Clock + Threads + Wait + Send + Sync,
->(
-    rt: &R,
-    ports: Vec<P>,
-    geometry: Geometry,
-    work: Work,
-) -> Result<(u64, Duration), anyhow::Error> {
+>(rt: &R, ports: Vec<P>, geometry: Geometry, work: Work) -> Result<(u64, Duration), anyhow::Error> {
     let (_, _, period, _) = work;
     let config = Config::new(geometry)
         .with_frames(FRAMES)
