@@ -169,7 +169,7 @@ module _ (e : Entry) (past : Trail) (t q : ℕ) (call : e.call ≡ WriteEnd t q 
 
 -- ---- what stands on the device
 
-none-front : (f : Entry → Bool) (x s : Trail) → some f (x ++ s) ≡ false → some f s ≡ false
+pub none-front : (f : Entry → Bool) (x s : Trail) → some f (x ++ s) ≡ false → some f s ≡ false
 none-front f [] s h = h
 none-front f (e ∷ x) s h = none-front f x s (or_parts (f e) (some f (x ++ s)) h).1
 
@@ -416,3 +416,38 @@ module _ (tears : Bool) (first : ℕ → List ℕ) (p : ℕ) (image : List ℕ) 
           → MatchBool b (MayBring tears first older p image) (MayLeave tears first older p image) → MatchBool b (MayBring false first older p image) (MayLeave false first older p image)
       go true before n h = whole-bring older n h
       go false before n h = before n h
+
+-- ---- an earlier moment
+
+pub record Earlier (past : Trail) (so_far : List DeviceCall) : Type 0 where
+  pub since : Trail
+  pub old : Trail
+  pub settled : Trail
+  pub parts : past ≡ since ++ old
+  pub life : PoolLife old so_far settled
+
+earlier-more : (e : Entry) (past : Trail) (so_far : List DeviceCall) → Earlier past so_far → Earlier (e ∷ past) so_far
+earlier-more e past so_far h = record { since = e ∷ h.since; old = h.old; settled = h.settled; parts = ap (λ (t : Trail). e ∷ t) h.parts; life = h.life }
+
+tail-same : (a b : DeviceCall) (xs ys : List DeviceCall) → a ∷ xs ≡ b ∷ ys → xs ≡ ys
+tail-same a b xs ys e = cc
+
+pub earlier : (past synced : Trail) (calls : List DeviceCall) → PoolLife past calls synced → (later so_far : List DeviceCall) → calls ≡ later ++ so_far → Earlier past so_far
+earlier past synced calls life [] so_far e = record { since = []; old = past; settled = synced; parts = refl; life = subst (λ (cs : List DeviceCall). PoolLife past cs synced) e life }
+earlier _ _ _ opened (call ∷ later) so_far e = absurd (cc)
+earlier _ _ _ (entered {past = past} {synced = synced} {calls = calls} d w life) (call ∷ later) so_far e = earlier-more d past so_far (earlier past synced calls life (call ∷ later) so_far e)
+earlier _ _ _ (read {past = past} {synced = synced} {calls = calls} d t p image i life) (call ∷ later) so_far e = earlier-more d past so_far (earlier past synced calls life later so_far (tail-same (Read p image) call calls (later ++ so_far) e))
+earlier _ _ _ (not_read {past = past} {synced = synced} {calls = calls} d t p i life) (call ∷ later) so_far e = earlier-more d past so_far (earlier past synced calls life later so_far (tail-same (NotRead p) call calls (later ++ so_far) e))
+earlier _ _ _ (wrote {older = older} {synced = synced} {calls = calls} d f t p image good i j life) (call ∷ later) so_far e = earlier-more d (f ∷ older) so_far (earlier (f ∷ older) synced calls life later so_far (tail-same (Write p image good) call calls (later ++ so_far) e))
+earlier _ _ _ (was_synced {past = past} {synced = synced} {calls = calls} good life) (call ∷ later) so_far e = earlier past synced calls life later so_far (tail-same (Sync good) call calls (later ++ so_far) e)
+
+pub legal-then : (c : Parameters) (since old : Trail) → Legal c (since ++ old) → Legal c old
+legal-then c [] old l = l
+legal-then c (e ∷ since) old l = legal-then c since old l.before
+
+pub honest-then : (tears : Bool) (first : ℕ → List ℕ) (later so_far : List DeviceCall) → Honest tears first (later ++ so_far) → Honest tears first so_far
+honest-then tears first [] so_far h = h
+honest-then tears first (Write p image good ∷ later) so_far h = honest-then tears first later so_far h
+honest-then tears first (Read p image ∷ later) so_far h = honest-then tears first later so_far h.1
+honest-then tears first (NotRead p ∷ later) so_far h = honest-then tears first later so_far h
+honest-then tears first (Sync good ∷ later) so_far h = honest-then tears first later so_far h

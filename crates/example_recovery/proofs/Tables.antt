@@ -1,5 +1,5 @@
 -- Why a crash of a table is mended.
-use Rattle.std.proofs.Common.{◌≡◌, inl, inr, refl, sym, ap, subst, ◌∙◌, ℕ, ◌+◌, ◌<◌, ◌≤◌, nat_le, Bool, true, false, cond, ◌&&◌, ◌==◌, List, [], ◌∷◌, ◌++◌, length, reverse, filter, filter_map, Some, None, append_assoc, append-nil, arith}
+use Rattle.std.proofs.Common.{◌≡◌, inl, inr, refl, sym, ap, subst, ◌∙◌, ℕ, ◌+◌, ◌<◌, ◌≤◌, nat_le, Bool, true, false, cond, ◌&&◌, ◌==◌, List, [], ◌∷◌, ◌++◌, length, reverse, filter, filter_map, Option, Some, None, append_assoc, append-nil, arith}
 use Rattle.std.specs.List.{cons_option}
 use Rattle.std.specs.Prelude.{◌⊎◌}
 use Rattle.std.proofs.lemmas.Bool.{lt-leb, le-leb}
@@ -9,9 +9,11 @@ use Rattle.bp_trail.specs.declared.entries.Call.{Call}
 use Rattle.bp_trail.specs.declared.entries.Call.TheVariants as call
 use Rattle.bp_trail.specs.declared.records.LogRecord.{LogRecord}
 use Rattle.bp_trail.specs.Parameters.{Parameters}
-use Rattle.bp_trail.specs.Lists.{every}
+use Rattle.bp_trail.specs.Lists.{every, greatest, some}
 use Rattle.bp_trail.specs.Trail.{Trail}
-use Rattle.bp_trail.specs.Event.{is_write, page_of, lsn_of}
+use Rattle.bp_trail.specs.Clock.{durable}
+use Rattle.bp_trail.specs.Legal.{Legal}
+use Rattle.bp_trail.specs.Event.{is_write, page_of, lsn_of, marked, discards}
 use Rattle.bp_trail.specs.Recovery.{HasFullImage, MayHave, Stopped, LogHas, redo, wanted, record_of, record_written, records, records_from, within}
 use Rattle.bp_trail.specs.Recovery.GaveBack.{from_opening}
 use Rattle.bp_trail.proofs.Bytes.{ordered-zero}
@@ -25,7 +27,7 @@ use Rattle.example_recovery.specs.Promise.{IsMended, MayBeRedone}
 use Rattle.example_recovery.specs.PoolLives.{IsSound}
 use Rattle.example_recovery.specs.Tables.{writes_of, TableRan}
 use Rattle.example_recovery.proofs.CommitsRead.{whole-commits}
-use Rattle.example_recovery.proofs.PoolLives.{leave, honest, whole-leave}
+use Rattle.example_recovery.proofs.PoolLives.{leave, honest, whole-leave, earlier, legal-then, none-front}
 
 -- ---- the writes of a page are among all
 
@@ -209,3 +211,42 @@ module _ (c : Parameters) (tears : Bool) (first left : ℕ → List ℕ) (table 
     mended = λ p. mends p (sound p);
     leads = λ p. leads p (leave c tears first past synced calls ran.pool ran.legal p (left p) (leaves p));
   }
+
+-- ---- at an earlier moment of the device it was a table too
+
+writes-append : (since old : Trail) → writes_of (since ++ old) ≡ writes_of since ++ writes_of old
+writes-append [] old = refl
+writes-append (e ∷ since) old = go (is_write e.call) (writes-append since old)
+  where
+    go : (b : Bool) → writes_of (since ++ old) ≡ writes_of since ++ writes_of old
+        → cond b (record_of e.call ∷ writes_of (since ++ old)) (writes_of (since ++ old)) ≡ cond b (record_of e.call ∷ writes_of since) (writes_of since) ++ writes_of old
+    go true h = ap (λ (t : List LogRecord). record_of e.call ∷ t) h
+    go false h = h
+
+mark-then : (since old : Trail) → durable old ≤ durable (since ++ old)
+mark-then [] old = omega arith
+mark-then (e ∷ since) old = go (marked e.call) (mark-then since old)
+  where
+    go : (o : Option ℕ) → durable old ≤ durable (since ++ old) → durable old ≤ greatest (cons_option o (filter_map (λ d. marked d.call) (since ++ old)))
+    go None h = h
+    go (Some n) h = omega arith
+
+pub ran-then : (c : Parameters) (table file : List ℕ) (start : ℕ) (alive : Bool) (past synced : Trail) (calls : List DeviceCall) (log_calls : List FileCall) (commits : List (List LogRecord)) (count : ℕ) (pending : List LogRecord)
+    → TableRan c table file start alive past synced calls log_calls commits count pending → (later so_far : List DeviceCall) → calls ≡ later ++ so_far
+    → (old settled : Trail) × (left : List LogRecord) × TableRan c table file start alive old settled so_far log_calls commits count left
+ran-then c table file start alive past synced calls log_calls commits count pending ran later so_far e =
+    let h = earlier past synced calls ran.pool later so_far e in
+    let legal : Legal c (h.since ++ h.old) = subst (Legal c) h.parts ran.legal in (
+      h.old,
+      h.settled,
+      pending ++ writes_of h.since,
+      record {
+        log = ran.log;
+        are = ran.are;
+        legal = legal-then c h.since h.old legal;
+        pool = h.life;
+        written = ran.written ∙ ap (λ (t : Trail). pending ++ writes_of t) h.parts ∙ ap (λ (t : List LogRecord). pending ++ t) (writes-append h.since h.old) ∙ sym (append_assoc pending (writes_of h.since) (writes_of h.old));
+        mark = (let m = mark-then h.since h.old in let n = subst (λ (t : Trail). durable t < start + count) h.parts ran.mark in omega arith);
+        kept = λ p. none-front (discards p) h.since h.old (subst (λ (t : Trail). some (discards p) t ≡ false) h.parts (ran.kept p));
+      },
+    )

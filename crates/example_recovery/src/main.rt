@@ -1,5 +1,5 @@
-//! An engine that recovers, to copy: so far its redo. It redoes a log over a device that fails at one call after the
-//! other, with rubbish left in the page, then once more; and prints the rows that each page has then.
+//! An engine that recovers, to copy: a table of rows, whose pages are in a pool for one owner, and whose commits are in
+//! a log. It commits, is stopped as by a crash, and is opened again.
 #![tactic(auto)]
 
 mod frames;
@@ -8,48 +8,39 @@ mod reading;
 mod redo;
 mod table;
 
+use bp_core::Settings;
 use bp_page::{Bytes, Geometry, Image, Lsn, PageNo, Refusal};
-use bp_ports::{FusePort, MemDevice, Port};
+use bp_ports::{MemDevice, MemPort, Port};
 use bp_trail::LogRecord;
-use redo::redo_pages;
+use log::LogFile;
+use redo::recover;
 use std::alloc::Global;
-use std::rt::Runtime;
+use std::fs::{self, File};
+use std::rt::{Files, Runtime};
 use std::sync::Wait;
+use table::Table;
 
-const ROW: usize = 16;
+const ROW: u32 = 16;
 
-/// Makes a record of a row, or of a whole page of rows, each byte of which is this one.
-fn record(
-    alloc: Global,
-    lsn: u64,
-    page: u64,
-    offset: u32,
-    byte: u8,
-    length: usize,
-) -> Result<LogRecord, Refusal> {
+/// The first record of the log: what its table is.
+const NAME: &[u8] = b"rows of 16 bytes, in 4 pages of 64";
+
+const LOG: &str = "example_recovery.log";
+
+/// Makes a change of a row, each byte of which is to be this one.
+fn row(alloc: Global, page: u64, row: u8, byte: u8) -> Result<LogRecord, Refusal> {
     Ok(LogRecord {
         page: PageNo::new(page),
-        offset,
-        bytes: Bytes::of(alloc, &vec![in alloc; byte; length]?)?,
-        lsn: Lsn::new(lsn),
+        offset: u32::from(row) * ROW,
+        bytes: Bytes::of(alloc, &[byte; 16])?,
+        lsn: Lsn::new(0),
     })
-}
-
-/// Makes the log: the first record of each page has its whole image.
-fn make_log(alloc: Global) -> Result<Vec<LogRecord>, anyhow::Error> {
-    let mut log = Vec::new(alloc);
-    log.push(record(alloc, 1, 1, 0, b'a', 64)?)?;
-    log.push(record(alloc, 2, 1, 16, b'b', ROW)?)?;
-    log.push(record(alloc, 3, 2, 0, b'c', 64)?)?;
-    log.push(record(alloc, 3, 1, 32, b'd', ROW)?)?;
-    log.push(record(alloc, 4, 2, 48, b'e', ROW)?)?;
-    Ok(log)
 }
 
 /// Prints the first byte of each row of a page.
 fn show(rt: &impl Runtime, page: u64, image: &Image) -> Result<(), anyhow::Error> {
     print!(rt; "  page {page}:")?;
-    for row in image.bytes().chunks(ROW) {
+    for row in image.bytes().chunks(16) {
         let byte = row.first().copied().unwrap_or(0);
         let letter = if byte == 0 { '.' } else { char::from(byte) };
         print!(rt; " {letter}")?;
@@ -58,21 +49,53 @@ fn show(rt: &impl Runtime, page: u64, image: &Image) -> Result<(), anyhow::Error
     Ok(())
 }
 
-/// Redoes the log over a device whose n-th call fails, and then over the device as that left it.
-fn cut_off(
+/// Makes a log, and a table whose commits it is to have.
+fn begin(
+    rt: &(impl Runtime<A = Global> + Files<File = File>),
+    port: MemPort,
+) -> Result<Table<File, MemPort>, anyhow::Error> {
+    let alloc = rt.alloc();
+    let mut options = File::options();
+    let file = options.read(true).write(true).create(true).open(rt, LOG)?;
+    let mut log = LogFile::over(file, 4096);
+    log.begin(alloc, 1, NAME)?;
+    Ok(Table::begin(alloc, port, Settings::new(2, 0, 1000)?, 2, log)?)
+}
+
+/// Commits these rows: the page of each, its number there, and its byte.
+fn commit(
     rt: &(impl Runtime<A = Global> + Wait),
-    log: &[LogRecord],
-    n: u64,
+    table: &mut Table<File, MemPort>,
+    rows: &[(u64, u8, u8)],
 ) -> Result<(), anyhow::Error> {
-    let (alloc, from) = (rt.alloc(), Lsn::new(1));
-    let device = MemDevice::new(alloc, Geometry::new(4, 64)?)?;
-    let mut fuse = FusePort::new(alloc, device.port()?, n, true)?;
-    match redo_pages(rt, alloc, &mut fuse, log, from) {
-        Ok(()) => println!(rt; "call {n}: done")?,
-        Err(why) => println!(rt; "call {n}: {why}")?,
+    let mut changes = Vec::new(rt.alloc());
+    for (page, number, byte) in rows {
+        changes.push(row(rt.alloc(), *page, *number, *byte)?)?;
     }
-    let mut port = device.port()?;
-    redo_pages(rt, alloc, &mut port, log, from)?;
+    let lsn = table.commit(rt, rt.alloc(), &changes)?;
+    println!(rt; "committed under LSN {lsn}")?;
+    Ok(())
+}
+
+/// Makes three commits, of which the last is not made durable.
+fn work(
+    rt: &(impl Runtime<A = Global> + Wait),
+    table: &mut Table<File, MemPort>,
+) -> Result<(), anyhow::Error> {
+    commit(rt, table, &[(1, 1, b'a'), (2, 0, b'b')])?;
+    commit(rt, table, &[(1, 2, b'c'), (3, 3, b'd')])?;
+    table.make_durable()?;
+    commit(rt, table, &[(2, 0, b'e')])
+}
+
+/// Opens the table again, and prints what its pages have.
+fn reopen(
+    rt: &(impl Runtime<A = Global> + Files<File = File> + Wait),
+    port: &mut MemPort,
+) -> Result<(), anyhow::Error> {
+    let bytes = fs::read(rt, LOG)?;
+    let found = recover(rt, rt.alloc(), &bytes, NAME, port)?;
+    println!(rt; "opened with the commits up to LSN {}", found.last)?;
     for page in 0..4 {
         show(rt, page, &port.read(rt, PageNo::new(page))?)?;
     }
@@ -80,9 +103,13 @@ fn cut_off(
 }
 
 fn main(rt: HostRuntime) -> Result<(), anyhow::Error> {
-    let log = make_log(rt.alloc())?;
-    for n in 1..5 {
-        cut_off(&rt, &log, n)?;
-    }
+    let device = MemDevice::new(rt.alloc(), Geometry::new(4, 64)?)?;
+    let mut table = begin(&rt, device.port()?)?;
+    let worked = work(&rt, &mut table);
+    // What the pool has in its frames is gone, as after a crash.
+    drop(table);
+    worked?;
+    reopen(&rt, &mut device.port()?)?;
+    fs::remove_file(&rt, LOG)?;
     Ok(())
 }

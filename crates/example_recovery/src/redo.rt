@@ -155,21 +155,21 @@ pub fn recover<R: Wait, P: Port>(
     }
 }
 
-/// What is read of the log after a crash are the first commits, each whole, and no fewer than were synced; and whatever
-/// the device then has may be redone, to what these commits make of the first images. It does nothing: its contract is
-/// the law.
+/// Stop a table at any moment of its device. What is read of the log are then the first commits, each whole, and no
+/// fewer than were synced; and whatever the device has may be redone, to what these commits make of the first images.
+/// It does nothing: its contract is the law.
 pub fn a_crash_is_mended()
     ensures { (c : Parameters) (tears : Bool) (first left : ℕ → List ℕ) (table file bytes : List ℕ)
-        (start : ℕ) (alive : Bool) (past synced : Trail) (calls : List DeviceCall)
+        (start : ℕ) (alive : Bool) (past synced : Trail) (calls later so_far : List DeviceCall)
         (log_calls : List FileCall) (commits : List (List Record)) (durable found last : ℕ)
         (changes pending : List Record) →
         TableRan c table file start alive past synced calls log_calls commits durable pending →
-        Honest tears first calls → ((p : ℕ) → length (first p) ≡ c.size) →
+        Honest tears first calls → ((p : ℕ) → length (first p) ≡ c.size) → calls ≡ later ++ so_far →
         FileLeaves file log_calls bytes →
         TellsTrue start (synced_bytes file log_calls) (written_bytes file log_calls) bytes →
-        ((p : ℕ) → MayLeave tears first calls p (left p)) →
+        ((p : ℕ) → MayLeave tears first so_far p (left p)) →
         HasCommits table bytes found last changes →
-        ((p : ℕ) → IsSound tears c.size 0 (reverse changes) calls p) →
+        ((p : ℕ) → IsSound tears c.size 0 (reverse changes) so_far p) →
         Kept start durable commits found last changes × MayBeRedone tears c.size 0 (reverse changes)
         (λ p. redo 0 (reverse changes) p (first p)) left }
 {}
