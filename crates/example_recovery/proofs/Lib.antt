@@ -7,3 +7,4 @@ pub mod Redoing
 pub mod PoolLives
 pub mod Tables
 pub mod Tabling
+pub mod Pools

@@ -3,13 +3,14 @@ ghost use Rattle.std.specs.Prelude.{◌≡◌, ℕ, Bool, [], ◌∷◌, ◌++�
 ghost use Rattle.bp_trail.specs.declared.records.LogRecord.{LogRecord as Record};
 ghost use Rattle.bp_trail.specs.Parameters.{Parameters};
 ghost use Rattle.bp_trail.specs.Trail.{Trail};
-ghost use Rattle.bp_trail.specs.Recovery.{records_from, redo, wanted};
+ghost use Rattle.bp_trail.specs.Images.{written_into};
+ghost use Rattle.bp_trail.specs.Recovery.{NeverFall, Stopped, put, records_from, redo, wanted, within};
 ghost use Rattle.example_recovery.specs.Commits.{HasCommits, Kept};
 ghost use Rattle.example_recovery.specs.Disk.{DeviceCall, Did, Honest, MayLeave};
 ghost use Rattle.example_recovery.specs.Files.{FileCall, FileLeaves, synced as synced_bytes, written as written_bytes};
 ghost use Rattle.example_recovery.specs.Lives.{TellsTrue};
 ghost use Rattle.example_recovery.specs.PoolLives.{IsSound};
-ghost use Rattle.example_recovery.specs.Promise.{MayBeRedone, Recovers};
+ghost use Rattle.example_recovery.specs.Promise.{IsMended, MayBeRedone, PoolLeaves, Recovers};
 ghost use Rattle.example_recovery.specs.Steps.{Begins, Redoes};
 ghost use Rattle.example_recovery.specs.Tables.{Opens, TableRan};
 
@@ -172,4 +173,17 @@ pub fn a_crash_is_mended()
         ((p : ℕ) → IsSound tears c.size 0 (reverse changes) so_far p) →
         Kept start durable commits found last changes × MayBeRedone tears c.size 0 (reverse changes)
         (λ p. redo 0 (reverse changes) p (first p)) left }
+{}
+
+/// What a stopped pool leaves may be redone, to what the writes within its log make of the first images, and after
+/// these any records whose write never came to be. That is law `redo_recovers_each_page` of every page, and where the
+/// log has a full image `full_images_recover_torn_pages`. It does nothing: its contract is the law.
+pub fn a_stopped_pool_may_be_redone()
+    ensures { (c : Parameters) (tears : Bool) (first left : ℕ → List ℕ)
+        (synced past : Trail) (log : List Record) (start from end : ℕ)
+        (s : (p : ℕ) → Stopped c first synced past log start from end p) →
+        ((p : ℕ) → NeverFall (records_from start log p)) → ((p : ℕ) → length (first p) ≡ c.size) →
+        ((p : ℕ) → IsMended tears c.size from log p) →
+        ((p : ℕ) → PoolLeaves c.size from log first synced past p (left p)) →
+        MayBeRedone tears c.size from log (λ p. put (s p).has.unwritten (written_into first (within end past) p)) left }
 {}
