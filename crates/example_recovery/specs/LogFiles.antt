@@ -1,5 +1,6 @@
 -- A log in a file, as its calls leave it.
-use Rattle.std.specs.Prelude.{◌≡◌, ◌⊎◌, ℕ, ◌+◌, ◌≤◌, Bool, true, false, not, List, [], ◌∷◌, ◌++◌, length, replicate}
+use Rattle.std.specs.Prelude.{◌≡◌, ◌⊎◌, ℕ, ◌+◌, ◌≤◌, Bool, true, false, not, List, [], ◌∷◌, ◌++◌, length, replicate, OnOk, OnErr}
+use Rattle.std.specs.declared.result.Result.{Result}
 use Rattle.bp_ports.specs.Files.{Transfer, StoreSync}
 use Rattle.example_recovery.specs.declared.log.LogFile.{LogFile}
 use Rattle.example_recovery.specs.Frames.{frames}
@@ -14,6 +15,15 @@ pub record IsLogFile {S : Type 0} (first : List ℕ) (start : ℕ) (calls : List
   pub size : file.size ≡ length first
   pub end : file.is_ended ≡ false → file.end ≡ length (frames start log)
   pub next : file.is_ended ≡ false → file.next ≡ start + length log
+
+-- after an error it has ended, and else as it had before
+abbrev pub EndsOnError : {S X E : Type 0} → LogFile S → LogFile S → Result X E → Type 0
+EndsOnError old new result =
+    OnErr result (new.is_ended ≡ true) × OnOk result (new.is_ended ≡ old.is_ended)
+
+-- the next record is to stand where it was to
+abbrev pub SamePlace : {S : Type 0} → LogFile S → LogFile S → Type 0
+SamePlace old new = (new.size ≡ old.size) × (new.end ≡ old.end) × (new.next ≡ old.next)
 
 -- a call that goes on with such a life, and leaves a log and a number of durable records that are so
 pub record GoesOn {S : Type 0} (reads writes : Transfer S) (syncs : StoreSync S) (old new : LogFile S)

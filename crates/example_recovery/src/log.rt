@@ -2,7 +2,7 @@
 ghost use Rattle.std.specs.Prelude.{◌≡◌, ◌⊎◌, ◌+◌, ◌≤◌, ℕ, true, false, List, [], ◌∷◌, ◌++◌, length, IfOk, OnOk, OnErr, is_ok};
 ghost use Rattle.example_recovery.specs.declared.log.LogFault.TheVariants.{Memory};
 ghost use Rattle.example_recovery.specs.Files.{FileCall, failed, written};
-ghost use Rattle.example_recovery.specs.LogFiles.{IsLogFile, GoesOn, Begins};
+ghost use Rattle.example_recovery.specs.LogFiles.{IsLogFile, EndsOnError, SamePlace, GoesOn, Begins};
 
 use crate::frames::put_frame;
 use bp_ports::Store;
@@ -75,8 +75,8 @@ impl<S: Store> LogFile<S> {
     /// Writes bytes, or ends the log.
     fn write(&mut self, start: usize, bytes: &[u8]) -> Result<(), LogFault>
         ensures gives { S.writes self.old.store start bytes.now (is_ok result) self.new.store }
-        ensures ended { (OnErr result (self.new.is_ended ≡ true)) × (OnOk result (self.new.is_ended ≡ self.old.is_ended)) }
-        ensures same { (self.new.size ≡ self.old.size) × (self.new.end ≡ self.old.end) × (self.new.next ≡ self.old.next) }
+        ensures ended { EndsOnError self.old self.new result }
+        ensures same { SamePlace self.old self.new }
     {
         match self.store.write_slot(start as u64, bytes) {
             Ok(()) => Ok(()),
@@ -95,8 +95,8 @@ impl<S: Store> LogFile<S> {
             GoesOn S.reads S.writes S.syncs self.old self.new first start calls (λ after synced.
             (after ≡ log) × OnOk result (synced ≡ length log) × OnErr result (synced ≡ durable)) }
         ensures gives { S.syncs self.old.store (is_ok result) self.new.store }
-        ensures ended { (OnErr result (self.new.is_ended ≡ true)) × (OnOk result (self.new.is_ended ≡ self.old.is_ended)) }
-        ensures same { (self.new.size ≡ self.old.size) × (self.new.end ≡ self.old.end) × (self.new.next ≡ self.old.next) }
+        ensures ended { EndsOnError self.old self.new result }
+        ensures same { SamePlace self.old self.new }
     {
         match self.store.sync_slots() {
             Ok(()) => Ok(()),

@@ -143,8 +143,8 @@ pub fn recover<R: Wait, P: Port>(
     table: &[u8],
     port: &mut P,
 ) -> Result<FoundLog, OpenFault>
-    ensures { Opens P.read_gives P.write_gives P.sync_gives (P.geometry_of port.old) table.now bytes.now
-        port.old result port.new }
+    ensures { Opens P.read_gives P.write_gives P.sync_gives (P.geometry_of port.old) table.now
+        bytes.now port.old result port.new }
 {
     let found = match read_log(alloc, bytes, table) {
         Ok(found) => found,
