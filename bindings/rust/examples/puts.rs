@@ -6,43 +6,24 @@
 //! changed and let go; the time of a latch alone is taken off. A copy is made to the same place of a
 //! page in a plain list of pages. Printed are nanoseconds, the least of the rounds, which other work on
 //! the machine changes least, and in brackets how many copies that is.
-use hojzmated::{PageIo, PageMut, ReadFault, SharedConfig, SharedPager};
+use hojzmated::{PageMut, SharedConfig, SharedPager};
 use pages::Numbers;
 use std::error::Error;
 use std::hint::black_box;
-use std::io;
 use std::time::Instant;
+use zeros::Zeros;
 
 #[path = "bench/pages.rs"]
 #[allow(dead_code)]
 mod pages;
 
+#[path = "bench/zeros.rs"]
+mod zeros;
+
 type Outcome<T> = Result<T, Box<dyn Error>>;
 
 const SIZE: usize = 4096;
 const TIMES: u64 = 2_000;
-
-/// Pages of zeros, which need no device.
-struct Zeros;
-
-impl PageIo for Zeros {
-    fn read_page(&self, _page: u64, image: &mut [u8]) -> Result<(), ReadFault> {
-        image.fill(0);
-        Ok(())
-    }
-
-    fn write_page(&self, _page: u64, _image: &mut [u8], _lsn: u64) -> io::Result<()> {
-        Ok(())
-    }
-
-    fn make_log_durable(&self, _lsn: u64) -> io::Result<()> {
-        Ok(())
-    }
-
-    fn sync(&self) -> io::Result<()> {
-        Ok(())
-    }
-}
 
 /// Where a page of a turn is, and where the bytes in it are.
 fn turns(pages: u64) -> impl Iterator<Item = (u64, usize)> {

@@ -7,36 +7,18 @@
 //! each page once. Printed is the memory that the system tells, and what the pager tells of itself: when it
 //! was made, when its frames were full, and when as many pages are remembered as may be. Then the newest
 //! half of the frames is changed, and a checkpoint is timed; then a hundredth of these, and then nothing.
-use hojzmated::{PageIo, PagerError, ReadFault, SharedConfig, SharedPager};
+use hojzmated::{PagerError, SharedConfig, SharedPager};
 use std::error::Error;
 use std::time::Instant;
 use std::{env, fs, io, thread};
+use zeros::Zeros;
+
+#[path = "bench/zeros.rs"]
+mod zeros;
 
 const THREADS: u64 = 4;
 
-/// A device of zeros, and a log that is always durable.
-struct Nothing;
-
-impl PageIo for Nothing {
-    fn read_page(&self, _page: u64, image: &mut [u8]) -> Result<(), ReadFault> {
-        image.fill(0);
-        Ok(())
-    }
-
-    fn write_page(&self, _page: u64, _image: &mut [u8], _lsn: u64) -> io::Result<()> {
-        Ok(())
-    }
-
-    fn make_log_durable(&self, _lsn: u64) -> io::Result<()> {
-        Ok(())
-    }
-
-    fn sync(&self) -> io::Result<()> {
-        Ok(())
-    }
-}
-
-type Pager = SharedPager<Nothing>;
+type Pager = SharedPager<Zeros>;
 type Outcome = Result<(), Box<dyn Error + Send + Sync>>;
 
 /// Bytes of this program that are in memory.
@@ -106,7 +88,7 @@ fn main() -> Outcome {
         ..SharedConfig::new(pages, page_size, frames)
     };
     let began = resident()?;
-    let pager = SharedPager::new(&config, Nothing)?;
+    let pager = SharedPager::new(&config, Zeros)?;
     println!("before: {began} bytes in memory");
     tell(&pager, "made")?;
     let look = |page| pager.read(page).map(drop);
