@@ -112,10 +112,10 @@ def thousands(values):
     return f"{statistics.median(values) / 1000:,.0f}"
 
 
-def print_table(title, runs, peer, of=None):
+def print_table(title, runs, peer):
     print(title)
     print("| | K | Period | This pool, thousands a second | Berkeley DB | Ratio |\n|---|---|---|---|---|---|")
-    for row, (name, period, at) in enumerate(of or rows()):
+    for row, (name, period, at) in enumerate(rows()):
         mine, other = [it[row] for it in runs], [it[at] for it in peer]
         ratios = [a / b for a, b in zip(mine, other)]
         print(f"| {name} | 2 | {period:,} | {thousands(mine)} | {thousands(other)} | {spread(ratios)} |")
@@ -131,9 +131,21 @@ def in_threads(rounds, pages, folder):
         peer.append(theirs_in_threads(bench, folder))
         for title, kind in kinds.items():
             runs[title].append(ours_in_threads(pages, kind, folder))
-    names = [(f"{name}, {threads} thread{'s' * (threads > 1)}", use[0]) for threads in THREADS for name, *use in USES]
     for title in kinds:
-        print_table(title, runs[title], peer, [(name, period, at) for at, (name, period) in enumerate(names)])
+        print_threads(title, runs[title], peer)
+
+
+def print_threads(title, runs, peer):
+    """A row for each use, with the median rates and their ratios for each number of threads."""
+    print(f"{title}, K 2, thousands a second and the ratio to Berkeley DB")
+    heads = " | ".join(f"{n} threads" if n > 1 else "1 thread" for n in THREADS)
+    print(f"| Use | Period | {heads} |\n|---|---|---|---|---|")
+    for use, (name, period, *_) in enumerate(USES):
+        cells = []
+        for at in range(use, len(USES) * len(THREADS), len(USES)):
+            mine, other = [it[at] for it in runs], [it[at] for it in peer]
+            cells.append(f"{thousands(mine)}; {spread([a / b for a, b in zip(mine, other)])}")
+        print(f"| {name} | {period} | {' | '.join(cells)} |")
 
 
 def main():
