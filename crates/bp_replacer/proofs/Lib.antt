@@ -1,3 +1,4 @@
+pub mod HandLaws
 pub mod HistoryLaws
 pub mod KeptLaws
 pub mod LaggingLaws

@@ -8,8 +8,10 @@ use Rattle.std.proofs.lemmas.List.{get_or-set_same, get_or-set_other, get_or_pas
 use Rattle.std.proofs.lemmas.List.Sorted.{Contains-permutation}
 use Rattle.bp_references.specs.Candidates.{Candidate}
 use Rattle.bp_replacer.specs.Seats.{winner, seat_at, LeadsAll, IsFirst, IsFirstAt, same_seat, Lags}
-use Rattle.bp_replacer.specs.Young.{since, AreQueued, NoneBelow, AreYoung, Covers, AreCovered, IsHeld, IsLater, AreAnew, AreKnown, IsSettled, stray, astray}
-use Rattle.bp_replacer.proofs.SeatLaws.{leads_itself, leads_left, leads_right, leads_later, winner_is, winner_from_not_before}
+use Rattle.bp_replacer.specs.Hands.{InHand, IsFree, IsExchanged, IsHeld}
+use Rattle.bp_replacer.specs.Young.{since, AreQueued, NoneBelow, AreYoung, Covers, AreCovered, IsLater, AreAnew, AreKnown, IsSettled, stray, astray}
+use Rattle.bp_replacer.proofs.HandLaws.{in_hand_or_free, free_not_in_hand, exchanged_free, exchanged_apart}
+use Rattle.bp_replacer.proofs.SeatLaws.{leads_left, leads_right, leads_later, winner_is, winner_from_not_before}
 use Rattle.bp_replacer.proofs.LaggingLaws.{alike_seats, itself, nobody_lags, settled_lags}
 
 -- ---- the queue
@@ -79,12 +81,12 @@ count_set time (t ∷ times) (suc k) n lt = (let rest = count_set time times k n
 -- ---- one seat changed
 
 -- every other seat is as it was
-pub covered_after : (known known' : List (Option Candidate)) (times times' : List ℕ) (seats seats' : List (Option Candidate)) (seat hand : ℕ) → length known' ≡ length seats' → length times' ≡ length seats' → ((k : ℕ) → k ≢ seat → seat_at known' k ≡ seat_at known k) → ((k : ℕ) → k ≢ seat → since times' k ≡ since times k) → ((k : ℕ) → k ≢ seat → seat_at seats' k ≡ seat_at seats k) → ((k : ℕ) → k ≢ hand → k ≢ seat → Covers (seat_at known k) (since times k) (seat_at seats k)) → (seat ≢ hand → Covers (seat_at known' seat) (since times' seat) (seat_at seats' seat)) → AreCovered known' times' seats' hand
-covered_after known known' times times' seats seats' seat hand len many same_known same_times same_seats others own = record {
+pub covered_after : (known known' : List (Option Candidate)) (times times' : List ℕ) (seats seats' : List (Option Candidate)) (seat : ℕ) (hands : List ℕ) → length known' ≡ length seats' → length times' ≡ length seats' → ((k : ℕ) → k ≢ seat → seat_at known' k ≡ seat_at known k) → ((k : ℕ) → k ≢ seat → since times' k ≡ since times k) → ((k : ℕ) → k ≢ seat → seat_at seats' k ≡ seat_at seats k) → ((k : ℕ) → IsFree hands k → k ≢ seat → Covers (seat_at known k) (since times k) (seat_at seats k)) → (IsFree hands seat → Covers (seat_at known' seat) (since times' seat) (seat_at seats' seat)) → AreCovered known' times' seats' hands
+covered_after known known' times times' seats seats' seat hands len many same_known same_times same_seats others own = record {
   length_is = len;
   as_many = many;
   covers = λ k free. elim (cases_eq k seat) [
-    | inl same ↦ subst (λ n. Covers (seat_at known' n) (since times' n) (seat_at seats' n)) (sym same) (own (subst (λ n. n ≢ hand) same free))
+    | inl same ↦ subst (λ n. Covers (seat_at known' n) (since times' n) (seat_at seats' n)) (sym same) (own (subst (IsFree hands) same free))
     | inr other ↦ rw (same_known k other, same_times k other, same_seats k other) (others k free other)
   ];
 }
@@ -125,9 +127,9 @@ since_past (t ∷ times) (suc k) le = since_past times k (omega arith)
 
 -- ---- who comes first
 
-module _ (known : List (Option Candidate)) (times : List ℕ) (seats : List (Option Candidate)) (hand : ℕ) (c : AreCovered known times seats hand) (time : ℕ) (none : NoneBelow times time) where
+module _ (known : List (Option Candidate)) (times : List ℕ) (seats : List (Option Candidate)) (hands : List ℕ) (c : AreCovered known times seats hands) (time : ℕ) (none : NoneBelow times time) where
   -- whoever stands here, and is old enough, comes after the first that is known
-  known_leads : (first : Option Candidate) → IsFirst known (λ x. x.1 < time) first → (k : ℕ) (y : Candidate) → k ≢ hand → seat_at seats k ≡ Some y → y.1 < time → winner first (Some y) ≡ first
+  known_leads : (first : Option Candidate) → IsFirst known (λ x. x.1 < time) first → (k : ℕ) (y : Candidate) → IsFree hands k → seat_at seats k ≡ Some y → y.1 < time → winner first (Some y) ≡ first
   known_leads first f k y free here old = elim (c.covers k free) [
     | inl lags ↦ after (seat_at known k) refl lags
     | inr waits ↦ (let young = waits y here in absurd (omega (arith, old, young.early, none k young.some)))
@@ -139,36 +141,32 @@ module _ (known : List (Option Candidate)) (times : List ℕ) (seats : List (Opt
           let le = lags.no_earlier y here in
           leads_later first (Some x) (Some y) (f.none_before k x is (omega (arith, le, old))) (winner_from_not_before x y (lags.not_before y here))
 
-  -- the first of those that are known, if it stands here, and the one in hand
-  with_hand : (first held : Option Candidate) → IsFirst known (λ x. x.1 < time) first → ((x : Candidate) → first ≡ Some x → (k : ℕ) × (seat_at seats k ≡ Some x) × (x.1 < time)) → IsHeld seats hand time held → IsFirst seats (λ x. x.1 < time) (winner first held)
+  -- the first of those that are known, if it stands here, and the first in hand
+  with_hand : (first held : Option Candidate) → IsFirst known (λ x. x.1 < time) first → ((x : Candidate) → first ≡ Some x → (k : ℕ) × (seat_at seats k ≡ Some x) × (x.1 < time)) → IsHeld seats hands 4 time held → IsFirst seats (λ x. x.1 < time) (winner first held)
   with_hand first held f there h = record {
     there = λ x is. elim (winner_is first held) [
       | inl which ↦ there x (sym which ∙ is)
-      | inr which ↦ (let at = h.there x (sym which ∙ is) in (hand, at.0, at.1))
+      | inr which ↦ h.there x (sym which ∙ is)
     ];
-    none_before = λ k y here old. elim (cases_eq k hand) [
-      | inl same ↦
-          let is : held ≡ Some y = h.aged y (subst (λ n. seat_at seats n ≡ Some y) same here) old in
-          subst (λ e. winner (winner first held) e ≡ winner first held) is (leads_right first held)
+    none_before = λ k y here old. elim (in_hand_or_free hands k) [
+      | inl there ↦ leads_later (winner first held) held (Some y) (leads_right first held) (h.none_before there.0 there.1 y (subst (λ n. seat_at seats n ≡ Some y) (sym there.2) here) old)
       | inr free ↦ leads_later (winner first held) first (Some y) (leads_left first held) (known_leads first f k y free here old)
     ];
   }
 
   -- the first that is known, where it stands here too
-  pub first_stands : (seat : ℕ) (a b held : Option Candidate) → IsFirstAt known (λ x. x.1 < time) seat → a ≡ seat_at known seat → b ≡ seat_at seats seat → same_seat a b ≡ true → IsHeld seats hand time held → IsFirst seats (λ x. x.1 < time) (winner b held)
+  pub first_stands : (seat : ℕ) (a b held : Option Candidate) → IsFirstAt known (λ x. x.1 < time) seat → a ≡ seat_at known seat → b ≡ seat_at seats seat → same_seat a b ≡ true → IsHeld seats hands 4 time held → IsFirst seats (λ x. x.1 < time) (winner b held)
   first_stands seat a b held f is_a is_b same h =
       let is : a ≡ b = alike_seats a b same in
       let first : IsFirst known (λ x. x.1 < time) b = subst (IsFirst known (λ x. x.1 < time)) (sym is_a ∙ is) f.first in
       with_hand b held first (λ x stands. (seat, sym is_b ∙ stands, (first.there x stands).2)) h
 
-  -- the one in hand, where it comes before all that are known
-  pub held_first : (root held : Option Candidate) → LeadsAll known root → winner held root ≡ held → IsHeld seats hand time held → IsFirst seats (λ x. x.1 < time) held
+  -- the first in hand, where it comes before all that are known
+  pub held_first : (root held : Option Candidate) → LeadsAll known root → winner held root ≡ held → IsHeld seats hands 4 time held → IsFirst seats (λ x. x.1 < time) held
   held_first root held l before h = record {
-    there = λ x is. (let at = h.there x is in (hand, at.0, at.1));
-    none_before = λ k y here old. elim (cases_eq k hand) [
-      | inl same ↦
-          let is : held ≡ Some y = h.aged y (subst (λ n. seat_at seats n ≡ Some y) same here) old in
-          subst (λ e. winner held e ≡ held) is (leads_itself held)
+    there = h.there;
+    none_before = λ k y here old. elim (in_hand_or_free hands k) [
+      | inl there ↦ h.none_before there.0 there.1 y (subst (λ n. seat_at seats n ≡ Some y) (sym there.2) here) old
       | inr free ↦ elim (c.covers k free) [
         | inl lags ↦ after k y here (seat_at known k) refl lags
         | inr waits ↦ (let young = waits y here in absurd (omega (arith, old, young.early, none k young.some)))
@@ -182,7 +180,7 @@ module _ (known : List (Option Candidate)) (times : List ℕ) (seats : List (Opt
           let behind : winner root (Some x) ≡ root = subst (λ e. winner root e ≡ root) is (l k) in
           leads_later held root (Some y) before (leads_later root (Some x) (Some y) behind (winner_from_not_before x y (lags.not_before y here)))
 
-  pub hand_alone : (held : Option Candidate) → IsFirst known (λ x. x.1 < time) None → IsHeld seats hand time held → IsFirst seats (λ x. x.1 < time) held
+  pub hand_alone : (held : Option Candidate) → IsFirst known (λ x. x.1 < time) None → IsHeld seats hands 4 time held → IsFirst seats (λ x. x.1 < time) held
   hand_alone held f h = with_hand None held f (λ x is. absurd (none-some x is)) h
 
 -- ---- one seat is settled, or each
@@ -231,16 +229,23 @@ known_home known times seats is k = elim (cases_eq (since times k) 0) [
   | inr some ↦ inl ((is.known_is k).1 (omega arith))
 ]
 
+settling_le : (known seats : List (Option Candidate)) (k : ℕ) (e : Option Candidate) → stray e (seat_at seats k) ≡ 0 → astray (set known k e) seats ≤ astray known seats
+settling_le [] seats k e none = omega arith
+settling_le (x ∷ known) [] zero e none = omega arith
+settling_le (x ∷ known) [] (suc k) e none = omega arith
+settling_le (x ∷ known) (s ∷ seats) zero e none = omega (arith, none)
+settling_le (x ∷ known) (s ∷ seats) (suc k) e none = (let rest = settling_le known seats k e none in omega (arith, rest))
+
 module _ (known : List (Option Candidate)) (times : List ℕ) (seats : List (Option Candidate)) (seat time : ℕ) (known' : List (Option Candidate)) (times' : List ℕ) (len : length known ≡ length seats) (many : length times ≡ length seats) (settled : IsSettled known times seats seat time known' times') where
   -- every other one is covered
-  pub settled_covered : (hand : ℕ) → ((k : ℕ) → k ≢ hand → k ≢ seat → Covers (seat_at known k) (since times k) (seat_at seats k)) → AreCovered known' times' seats hand
-  settled_covered hand others = elim settled [
+  pub settled_covered : (hands : List ℕ) → ((k : ℕ) → IsFree hands k → k ≢ seat → Covers (seat_at known k) (since times k) (seat_at seats k)) → AreCovered known' times' seats hands
+  settled_covered hands others = elim settled [
     | inl at ↦ elim at.1 [
-      | inr apart ↦ covered_after known known' times times' seats seats seat hand
+      | inr apart ↦ covered_after known known' times times' seats seats seat hands
           (ap length apart.known_is ∙ length-set known seat None ∙ len) (later_length time seat times times' apart.later ∙ many)
           (λ k other. ap (λ ss. seat_at ss k) apart.known_is ∙ get_or-set_other known seat k None None other)
           (later_others time seat times times' apart.later) (λ k other. refl) others (λ free. inr apart.young)
-      | inl one ↦ covered_after known known' times times' seats seats seat hand
+      | inl one ↦ covered_after known known' times times' seats seats seat hands
           (ap length one.1 ∙ length-set known seat (seat_at seats seat) ∙ len) (ap length one.0 ∙ many)
           (λ k other. ap (λ ss. seat_at ss k) one.1 ∙ get_or-set_other known seat k (seat_at seats seat) None other)
           (λ k other. ap (λ ts. since ts k) one.0) (λ k other. refl) others
@@ -252,7 +257,7 @@ module _ (known : List (Option Candidate)) (times : List ℕ) (seats : List (Opt
         as_many = all.0.as_many;
         covers = λ k free. anew_covers known' time times' seats all.0 all.1 k;
       }
-      | inr past ↦ covered_after known known' times times' seats seats seat hand
+      | inr past ↦ covered_after known known' times times' seats seats seat hands
           (ap length past.2 ∙ len) (ap length past.1 ∙ many)
           (λ k other. ap (λ ss. seat_at ss k) past.2) (λ k other. ap (λ ts. since ts k) past.1) (λ k other. refl) others
           (λ free. inl (subst (λ e. Lags (seat_at known' seat) e) (sym (get_or_past seats seat None past.0)) (nobody_lags (seat_at known' seat))))
@@ -287,6 +292,19 @@ module _ (known : List (Option Candidate)) (times : List ℕ) (seats : List (Opt
     ]
   ]
 
+  -- no more are known who do not stand there
+  pub settled_no_more : astray known' seats ≤ astray known seats
+  settled_no_more = elim settled [
+    | inl at ↦ elim at.1 [
+      | inr apart ↦ subst (λ ss. astray ss seats ≤ astray known seats) (sym apart.known_is) (settling_le known seats seat None refl)
+      | inl one ↦ subst (λ ss. astray ss seats ≤ astray known seats) (sym one.1) (settling_le known seats seat (seat_at seats seat) (at_home (seat_at seats seat)))
+    ]
+    | inr rest ↦ elim rest [
+      | inl all ↦ omega (arith, none_astray known' seats (known_home known' times' seats all.1))
+      | inr past ↦ omega (arith, ap (λ ss. astray ss seats) past.2)
+    ]
+  ]
+
   -- fewer are known who do not stand there
   pub settled_less : (a b : Option Candidate) → seat < length seats → a ≡ seat_at known seat → b ≡ seat_at seats seat → seat_at known seat ≢ None → same_seat a b ≡ false → astray known' seats < astray known seats
   settled_less a b lt is_a is_b stands differ =
@@ -314,15 +332,10 @@ module _ (known : List (Option Candidate)) (times : List ℕ) (seats : List (Opt
       settling (x ∷ known) (s ∷ seats) zero e len lt stands differ none = omega (arith, none, one_astray x s stands differ)
       settling (x ∷ known) (s ∷ seats) (suc k) e len lt stands differ none = (let less = settling known seats k e (omega arith) (omega arith) stands differ none in omega (arith, less))
 
--- one that waited is taken out, and sorted with the one in hand: every other one is covered
-pub taken_others : (known : List (Option Candidate)) (times times' : List ℕ) (seats : List (Option Candidate)) (seat hand : ℕ) (pair : ℕ × ℕ) → times' ≡ set times seat 0 → AreCovered known times seats hand → (pair ≡ (hand, seat)) ⊎ (pair ≡ (seat, hand)) → (k : ℕ) → k ≢ pair.0 → k ≢ pair.1 → Covers (seat_at known k) (since times' k) (seat_at seats k)
-taken_others known times times' seats seat hand pair is c which k free apart = elim which [
-  | inl same ↦ neither (λ e. free (e ∙ sym (ap (λ (p : ℕ × ℕ). p.0) same))) (λ e. apart (e ∙ sym (ap (λ (p : ℕ × ℕ). p.1) same)))
-  | inr swapped ↦ neither (λ e. apart (e ∙ sym (ap (λ (p : ℕ × ℕ). p.1) swapped))) (λ e. free (e ∙ sym (ap (λ (p : ℕ × ℕ). p.0) swapped)))
-]
-  where
-    neither : k ≢ hand → k ≢ seat → Covers (seat_at known k) (since times' k) (seat_at seats k)
-    neither not_hand not_seat = rw (is, get_or-set_other times seat k 0 0 not_seat) (c.covers k not_hand)
+-- one that waited is taken out, and comes into hand for another: every other one is covered
+pub taken_others : (known : List (Option Candidate)) (times times' : List ℕ) (seats : List (Option Candidate)) (seat : ℕ) (hands hands' : List ℕ) (other : ℕ) → times' ≡ set times seat 0 → AreCovered known times seats hands → IsExchanged hands seat hands' other → (k : ℕ) → IsFree hands' k → k ≢ other → Covers (seat_at known k) (since times' k) (seat_at seats k)
+taken_others known times times' seats seat hands hands' other is c x k free apart =
+    rw (is, get_or-set_other times seat k 0 0 (exchanged_apart hands seat hands' other x k free apart)) (c.covers k (exchanged_free hands seat hands' other x k free apart))
 
 pub taken_less : (times times' : List ℕ) (seat time : ℕ) → seat < length times → 0 < since times seat → since times seat < time → times' ≡ set times seat 0 → count_early time times' < count_early time times
 taken_less times times' seat time lt some below is =
@@ -334,7 +347,7 @@ taken_less times times' seat time lt some below is =
 
 -- ---- one enters, or leaves
 
-module _ (known : List (Option Candidate)) (times : List ℕ) (seats : List (Option Candidate)) (hand seat : ℕ) (e : Option Candidate) (lt : seat < length seats) (c : AreCovered known times seats hand) where
+module _ (known : List (Option Candidate)) (times : List ℕ) (seats : List (Option Candidate)) (hands : List ℕ) (seat : ℕ) (e : Option Candidate) (lt : seat < length seats) (c : AreCovered known times seats hands) where
   same_length : length seats ≡ length (set seats seat e)
   same_length = sym (length-set seats seat e)
 
@@ -342,23 +355,23 @@ module _ (known : List (Option Candidate)) (times : List ℕ) (seats : List (Opt
   here = get_or-set_same seats seat e None lt
 
   -- the seat alone
-  put_alone : (seat ≢ hand → Covers (seat_at known seat) (since times seat) e) → AreCovered known times (set seats seat e) hand
-  put_alone own = covered_after known known times times seats (set seats seat e) seat hand (c.length_is ∙ same_length) (c.as_many ∙ same_length) (λ k other. refl) (λ k other. refl) (λ k other. get_or-set_other seats seat k e None other) (λ k free other. c.covers k free) (λ free. subst (Covers (seat_at known seat) (since times seat)) (sym here) (own free))
+  put_alone : (IsFree hands seat → Covers (seat_at known seat) (since times seat) e) → AreCovered known times (set seats seat e) hands
+  put_alone own = covered_after known known times times seats (set seats seat e) seat hands (c.length_is ∙ same_length) (c.as_many ∙ same_length) (λ k other. refl) (λ k other. refl) (λ k other. get_or-set_other seats seat k e None other) (λ k free other. c.covers k free) (λ free. subst (Covers (seat_at known seat) (since times seat)) (sym here) (own free))
 
-  pub put_held : seat ≡ hand → AreCovered known times (set seats seat e) hand
-  put_held is = put_alone (λ free. absurd (free is))
+  pub put_held : InHand hands seat → AreCovered known times (set seats seat e) hands
+  put_held there = put_alone (λ free. absurd (free_not_in_hand hands seat there free))
 
-  pub put_lags : Lags (seat_at known seat) e → AreCovered known times (set seats seat e) hand
+  pub put_lags : Lags (seat_at known seat) e → AreCovered known times (set seats seat e) hands
   put_lags may = put_alone (λ free. inl may)
 
-  pub put_both : AreCovered (set known seat e) times (set seats seat e) hand
-  put_both = covered_after known (set known seat e) times times seats (set seats seat e) seat hand (length-set known seat e ∙ c.length_is ∙ same_length) (c.as_many ∙ same_length) (λ k other. get_or-set_other known seat k e None other) (λ k other. refl) (λ k other. get_or-set_other seats seat k e None other) (λ k free other. c.covers k free) (λ free. inl (rw (get_or-set_same known seat e None (omega (arith, c.length_is, lt)), here) (settled_lags e)))
+  pub put_both : AreCovered (set known seat e) times (set seats seat e) hands
+  put_both = covered_after known (set known seat e) times times seats (set seats seat e) seat hands (length-set known seat e ∙ c.length_is ∙ same_length) (c.as_many ∙ same_length) (λ k other. get_or-set_other known seat k e None other) (λ k other. refl) (λ k other. get_or-set_other seats seat k e None other) (λ k free other. c.covers k free) (λ free. inl (rw (get_or-set_same known seat e None (omega (arith, c.length_is, lt)), here) (settled_lags e)))
 
-  pub put_waits : (times' : List ℕ) (time : ℕ) → IsLater time seat times times' → AreYoung (since times' seat) e → AreCovered known times' (set seats seat e) hand
-  put_waits times' time later young = covered_after known known times times' seats (set seats seat e) seat hand (c.length_is ∙ same_length) (later_length time seat times times' later ∙ c.as_many ∙ same_length) (λ k other. refl) (later_others time seat times times' later) (λ k other. get_or-set_other seats seat k e None other) (λ k free other. c.covers k free) (λ free. inr (subst (AreYoung (since times' seat)) (sym here) young))
+  pub put_waits : (times' : List ℕ) (time : ℕ) → IsLater time seat times times' → AreYoung (since times' seat) e → AreCovered known times' (set seats seat e) hands
+  put_waits times' time later young = covered_after known known times times' seats (set seats seat e) seat hands (c.length_is ∙ same_length) (later_length time seat times times' later ∙ c.as_many ∙ same_length) (λ k other. refl) (later_others time seat times times' later) (λ k other. get_or-set_other seats seat k e None other) (λ k free other. c.covers k free) (λ free. inr (subst (AreYoung (since times' seat)) (sym here) young))
 
-pub none_covered : (n : ℕ) → AreCovered (replicate n None) (replicate n 0) (replicate n None) n
-none_covered n = record {
+pub none_covered : (n : ℕ) (hands : List ℕ) → AreCovered (replicate n None) (replicate n 0) (replicate n None) hands
+none_covered n hands = record {
   length_is = refl;
   as_many = length-replicate n 0 ∙ sym (length-replicate n None);
   covers = λ k free. inl (settled_lags (seat_at (replicate n None) k));

@@ -3,6 +3,7 @@
 pub mod Limits
 pub mod Histories
 pub mod Seats
+pub mod Hands
 pub mod Young
 -- What a body keeps: blocks in slots, who waits for a purge, and the tree over the seats.
 pub mod Kept

@@ -1,6 +1,7 @@
 -- The seats whose candidates wait to come of age.
-use Rattle.std.specs.Prelude.{◌≡◌, ◌≢◌, ◌⊎◌, ℕ, ◌+◌, ◌<◌, ◌≤◌, List, [], ◌∷◌, Contains, length, slice_index_or, set, Option, Some, None, if◌then◌else◌}
+use Rattle.std.specs.Prelude.{◌≡◌, ◌⊎◌, ℕ, ◌+◌, ◌<◌, ◌≤◌, List, [], ◌∷◌, Contains, length, slice_index_or, set, Option, Some, None, if◌then◌else◌}
 use Rattle.bp_references.specs.Candidates.{Candidate}
+use Rattle.bp_replacer.specs.Hands.{IsFree}
 use Rattle.bp_replacer.specs.Seats.{seat_at, same_seat, Lags}
 
 -- the time since which a seat waits, 0 where it does not
@@ -30,18 +31,13 @@ AreYoung waits here = (x : Candidate) → here ≡ Some x → IsYoung waits x.1
 abbrev pub Covers : Option Candidate → ℕ → Option Candidate → Type 0
 Covers known waits here = Lags known here ⊎ AreYoung waits here
 
--- at each seat but the one in hand
+-- at each seat that is not in hand
 pub record AreCovered (known : List (Option Candidate)) (times : List ℕ)
-    (seats : List (Option Candidate)) (hand : ℕ) : Type 0 where
+    (seats : List (Option Candidate)) (hands : List ℕ) : Type 0 where
   pub length_is : length known ≡ length seats
   pub as_many : length times ≡ length seats
-  pub covers : (k : ℕ) → k ≢ hand → Covers (seat_at known k) (since times k) (seat_at seats k)
-
--- of the candidate at a seat: it is this one, if it was last referenced before a time
-pub record IsHeld (seats : List (Option Candidate)) (seat time : ℕ)
-    (held : Option Candidate) : Type 0 where
-  pub there : (x : Candidate) → held ≡ Some x → (seat_at seats seat ≡ Some x) × (x.1 < time)
-  pub aged : (x : Candidate) → seat_at seats seat ≡ Some x → x.1 < time → held ≡ Some x
+  pub covers : (k : ℕ) → IsFree hands k
+      → Covers (seat_at known k) (since times k) (seat_at seats k)
 
 -- a seat waits since this time or a later one, if that is changed
 pub record IsLater (time seat : ℕ) (times times' : List ℕ) : Type 0 where

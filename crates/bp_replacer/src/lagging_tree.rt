@@ -2,8 +2,9 @@
 //! that is brought up to date only where a look needs it.
 ghost use Rattle.std.specs.Prelude.{◌≡◌, ◌⊎◌, ◌<◌, IsTrue, IsFalse, Some, None, IfOk, length, replicate, set};
 ghost use Rattle.bp_replacer.specs.Seats.{winner, seat_at, same_seat, Lags, IsFirst};
-ghost use Rattle.bp_replacer.specs.Young.{since, AreYoung, AreAnew, IsHeld, IsLater, IsSettled};
+ghost use Rattle.bp_replacer.specs.Young.{since, AreYoung, AreAnew, IsLater, IsSettled};
 
+use crate::hands::{Hands, earlier};
 use crate::marks::Marks;
 use crate::seat_list::SeatList;
 use crate::tournament::{Seat, Tournament, precedes};
@@ -31,11 +32,11 @@ const SEATS_A_TAKE: usize = 128;
 /// until it would come first there, and is put in its place then, by a walk up the tree from its seat.
 ///
 /// Whoever enters at a seat that the tree may not lag behind waits apart, in a queue by last time, so that nobody who
-/// is too young hides the others in the tree. A look first takes out of the queue who came of age. One of them is kept
-/// in hand, out of the tree too: whoever comes first. So one that is replaced as soon as it is old enough takes no
+/// is too young hides the others in the tree. A look first takes out of the queue who came of age. Four of them are kept
+/// in hand, out of the tree too: those who come first. So one that is replaced soon after it is old enough takes no
 /// walk; each of the others takes one. A page that a look finds in a wrong place, and too young, waits apart as well,
-/// unless it is likely to be old enough before it comes first. Where it comes first too soon after all, the next look
-/// lets it wait, up to 16 pages a look.
+/// unless it is likely to be old enough before it comes first. Where it comes first too soon after all, it is let wait,
+/// up to 16 pages a look.
 ///
 /// Where one look took 16 walks already, and the tree may lag behind one in 16 of the seats, a pass takes the place of
 /// the next walk: the tree copies the seats of all that do not wait, each node is computed once from scratch, and who
@@ -46,12 +47,12 @@ const SEATS_A_TAKE: usize = 128;
 pub struct LaggingTree {
     seats: SeatList,
     tree: Tournament,
-    /// The seats that the tree may lag behind: but for those that wait and the one in hand, it lags behind no other.
+    /// The seats that the tree may lag behind: but for those that wait and those in hand, it lags behind no other.
     behind: Marks,
     /// The seats whose candidates wait to come of age.
     young: Young,
-    /// The seat that is in hand, or the number of seats.
-    hand: usize,
+    /// The seats that are in hand.
+    hands: Hands,
 }
 
 impl Model for LaggingTree {
@@ -63,7 +64,7 @@ impl Model for LaggingTree {
 
     ghost view = { λ s. s.seats };
 
-    ghost invariant = { λ s. AreCovered s.tree s.young s.seats s.hand };
+    ghost invariant = { λ s. AreCovered s.tree s.young s.seats s.hands };
 }
 
 // Returns true if a tree that has the first at a seat may lag behind the second there.
@@ -121,25 +122,6 @@ fn settle(
     }
 }
 
-// The candidate at a seat, if it was last referenced before a time.
-fn aged_at(seats: &SeatList, seat: usize, time: u64) -> Seat
-    ensures { IsHeld seats.now seat time result }
-{
-    let entry = seats.at(seat)?;
-    if entry.1 < time { Some(entry) } else { None }
-}
-
-// Of two candidates, the one that comes first.
-fn earlier(a: Seat, b: Seat) -> Seat
-    ensures { result ≡ winner a b }
-{
-    match (a, b) {
-        (None, _) => b,
-        (Some(_), None) => a,
-        (Some(x), Some(y)) => if precedes(&y, &x) { b } else { a },
-    }
-}
-
 // Returns true if there is a first candidate, and it comes before the second.
 fn leads(first: &Seat, second: &Seat) -> bool
     ensures { IsTrue result → winner first.now second.now ≡ first.now }
@@ -159,21 +141,6 @@ fn stamp_of(entry: &Seat) -> u64 {
     }
 }
 
-// The seat that stays in hand, and the other: of those old enough, the first stays.
-fn sorted(seats: &SeatList, hand: usize, seat: usize, time: u64) -> (usize, usize)
-    ensures { (result ≡ (hand, seat)) ⊎ (result ≡ (seat, hand)) }
-{
-    match (aged_at(seats, hand, time), aged_at(seats, seat, time)) {
-        (None, _) => (seat, hand),
-        (Some(_), None) => (hand, seat),
-        (Some(x), Some(y)) => if precedes(&y, &x) {
-            (seat, hand)
-        } else {
-            (hand, seat)
-        },
-    }
-}
-
 impl LaggingTree {
     /// Makes `size` empty seats. It fails by want of memory alone; no other call takes any.
     pub fn new(alloc: Global, size: usize) -> Result<LaggingTree, AllocError>
@@ -188,7 +155,7 @@ impl LaggingTree {
             tree,
             behind,
             young,
-            hand: size,
+            hands: Hands::new(size),
         })
     }
 
@@ -199,7 +166,7 @@ impl LaggingTree {
         ensures { self.new ≡ set self.old seat entry }
     {
         self.seats.put(seat, entry);
-        if seat == self.hand {
+        if self.hands.has(seat) {
             return;
         }
         if may_lag(&self.tree.find(seat), &entry) {
@@ -213,7 +180,7 @@ impl LaggingTree {
     }
 
     /// Returns the first candidate of those last referenced before a time, or `None` where there is none. Whoever
-    /// waited apart and was last referenced before the time comes into hand, or into the tree. Where the one in hand comes
+    /// waited apart and was last referenced before the time comes into hand, or into the tree. Where the first in hand comes
     /// before whoever is first in the tree, rightly or not, it is the first. Else the tree catches up with each seat that
     /// comes first in it wrongly, until one comes first rightly. After a pass the next look finds it.
     pub fn first_before(&mut self, time: u64) -> Seat
@@ -224,8 +191,7 @@ impl LaggingTree {
         let least = stamp_of(&self.tree.first());
         let mut taken = 0usize;
         while let Some(seat) = self.young.take_below(time) {
-            let (kept, other) = sorted(&self.seats, self.hand, seat, time);
-            self.hand = kept;
+            let other = self.hands.exchange(&self.seats, seat, time);
             let all = taken >= many;
             settle(
                 &mut self.tree,
@@ -239,35 +205,34 @@ impl LaggingTree {
             );
             taken = taken.saturating_add(1);
         }
-        let held = aged_at(&self.seats, self.hand, time);
+        let held = self.hands.first(&self.seats, time);
         if leads(&held, &self.tree.first()) {
             return held;
         }
-        let mut moved = 0usize;
-        while moved < FEW_WALKS {
-            let Some(seat) = self.tree.hiding(time) else {
-                break;
-            };
-            settle(
-                &mut self.tree,
-                &self.seats,
-                &mut self.behind,
-                &mut self.young,
-                seat,
-                time,
-                u64::MAX,
-                false,
-            );
-            moved += 1;
-        }
-        let mut walks = 0usize;
+        let (mut moved, mut walks) = (0usize, 0usize);
         loop {
+            if moved < FEW_WALKS
+                && let Some(seat) = self.tree.hiding(time)
+            {
+                settle(
+                    &mut self.tree,
+                    &self.seats,
+                    &mut self.behind,
+                    &mut self.young,
+                    seat,
+                    time,
+                    u64::MAX,
+                    false,
+                );
+                moved += 1;
+                continue;
+            }
             let Some(seat) = self.tree.first_before(time) else {
-                return aged_at(&self.seats, self.hand, time);
+                return held;
             };
             let entry = self.seats.find(seat);
             if same_seat(&self.tree.find(seat), &entry) {
-                return earlier(entry, aged_at(&self.seats, self.hand, time));
+                return earlier(entry, held);
             }
             let many = self.seats.len() / SEATS_A_WALK;
             let all = walks >= FEW_WALKS && self.behind.count() >= many;

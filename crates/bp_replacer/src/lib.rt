@@ -2,6 +2,7 @@
 #![tactic(auto)]
 
 mod block;
+mod hands;
 pub mod histories;
 mod lagging_tree;
 mod marks;

@@ -18,9 +18,9 @@ use std::marker::Model;
 /// walk or the pass before.
 ///
 /// Any other page that enters waits in a queue by the time of its newest reference, so that no page that is too young
-/// hides the others. `victim` takes out who came of age, each in O(log frames): one of them is kept beside the tree,
-/// and the others come into it, by a walk each. Where more come of age than 64 and one in 128 of the seats, a pass
-/// takes in the rest.
+/// hides the others. `victim` takes out who came of age, each in O(log frames): the first four of them are kept beside
+/// the tree, and the others come into it, by a walk each. Where more come of age than 64 and one in 128 of the seats, a
+/// pass takes in the rest.
 ///
 /// A walk looks at 16 seats at most, and goes up from there as far as that changes what the tree knows, O(log frames) at
 /// most. `leave` takes none, nor does `enter` while the queue has room, but for a page whose newest reference is at the
