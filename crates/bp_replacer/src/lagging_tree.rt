@@ -166,11 +166,11 @@ impl LaggingTree {
         ensures { self.new ≡ set self.old seat entry }
     {
         self.seats.put(seat, entry);
-        if self.hands.has(seat) {
-            return;
-        }
         if may_lag(&self.tree.find(seat), &entry) {
             self.behind.set(seat);
+            return;
+        }
+        if self.hands.has(seat) {
             return;
         }
         self.behind.unset(seat);
