@@ -1,11 +1,12 @@
 /* 64 threads over a pager of 128 frames for as long as is wanted, with checkpoints, a cleaner, discards and a device
  * that fails. Memory stays as it is.
  *
- *     pager_soak [SECONDS]      for so long; 2 seconds if nothing is said
+ *     pager_soak [SECONDS [SEED]]    for so long, and by which numbers; 2 seconds from 1 if nothing is said
  *
  * Each page has one number in all of its words, that of its newest write. Each read of it, and the device at the end,
- * has to have that. Pages of the last few are for scratch: a thread writes to one, and drops it. Memory is told four
- * times, and may not grow by more than 4 MiB after the first.
+ * has to have that, and the device after a checkpoint what was there before. Pages of the last few are for scratch: a
+ * thread writes to two, and drops them. Memory is told each minute, or each quarter of a time below four minutes, and
+ * may not grow by more than 4 MiB after the first.
  *
  *     check/soak            builds it with the library, and runs it
  */
@@ -13,6 +14,7 @@
 #include "hojzmated_pager.h"
 #include <errno.h>
 #include <pthread.h>
+#include <sched.h>
 #include <stdatomic.h>
 #include <stdio.h>
 #include <stdlib.h>
@@ -20,15 +22,18 @@
 #include <time.h>
 #include <unistd.h>
 
-enum { THREADS = 64, PAGES = 1024, SCRATCH = 64, FRAMES = 128, SIZE = 64, WORDS = SIZE / 8, FAILS_IN = 300 };
+enum { THREADS = 64, DROPPED = 2, LASTING = 4096, PAGES = LASTING + THREADS * DROPPED, HOT = 64, FRAMES = 128 };
+enum { SIZE = 64, WORDS = SIZE / 8, FAILS_IN = 300, MINUTE = 60 };
 static const long MOST_GROWTH = 4 << 20;
 
 static hz_pager pager;
 static atomic_bool is_over;
-static atomic_ulong calls, faults, checkpoints, cleaned, discards;
+static atomic_ulong calls, faults, checkpoints, cleaned, discards, states;
 /* Written by whoever has the page's exclusive latch, or alone uses it for scratch. */
 static uint64_t newest[PAGES];
+/* A thread has it shared from a log record to the end of its write. */
 static pthread_rwlock_t records = PTHREAD_RWLOCK_INITIALIZER;
+static pthread_mutex_t turn = PTHREAD_MUTEX_INITIALIZER;
 static _Atomic uint64_t log_end, log_durable;
 
 static struct place {
@@ -46,31 +51,52 @@ static void stop(int line, const char *what, unsigned long long number)
 
 #define HAS_TO_BE(what, number) ((what) ? (void)0 : stop(__LINE__, #what, (unsigned long long)(number)))
 
-static uint64_t draw(uint64_t *state, uint64_t below)
+/* Takes the lock of the records. Who comes later does not overtake a checkpoint that waits for it. */
+static void take_records(int (*lock)(pthread_rwlock_t *))
 {
-    *state = *state * 6364136223846793005u + 1442695040888963407u;
-    return (*state >> 33) % below;
+    pthread_mutex_lock(&turn);
+    lock(&records);
+    pthread_mutex_unlock(&turn);
+}
+
+/* A number at random, of this thread's own numbers. */
+static uint64_t draw(uint64_t below)
+{
+    static _Thread_local uint64_t state;
+    if (!state)
+        state = ++states * 7919;
+    state = state * 6364136223846793005u + 1442695040888963407u;
+    return (state >> 33) % below;
 }
 
 /* ---- The device, which fails at random, and the log ---- */
 
 static int fails(void)
 {
-    static _Thread_local uint64_t state;
-    if (!state)
-        state = (uint64_t)(uintptr_t)&state;
-    return !is_over && draw(&state, FAILS_IN) == 0 ? EIO : 0;
+    bool is_bad = !is_over && draw(FAILS_IN) == 0;
+    faults += is_bad;
+    return is_bad ? EIO : 0;
 }
 
 static int read_page(void *own, uint64_t page, uint8_t *image, size_t size)
 {
     struct place *place = (struct place *)own + page;
     if (fails())
-        return EIO;
+        return draw(2) ? EIO : HZ_IO_WRONG_PAGE;
     pthread_mutex_lock(&place->lock);
     memcpy(image, place->words, size);
     pthread_mutex_unlock(&place->lock);
     return 0;
+}
+
+/* All words of a page have this number. */
+static void look_at(const uint8_t *bytes, uint64_t number, uint64_t page)
+{
+    uint64_t word;
+    for (int i = 0; i < WORDS; i++) {
+        memcpy(&word, bytes + 8 * i, 8);
+        HAS_TO_BE(word == number, page);
+    }
 }
 
 /* A write that fails leaves half of the image. */
@@ -78,6 +104,7 @@ static int write_page(void *own, uint64_t page, uint8_t *image, size_t size, uin
 {
     struct place *place = (struct place *)own + page;
     int error = fails();
+    look_at(image, lsn, page);
     HAS_TO_BE(lsn <= log_durable, page);
     pthread_mutex_lock(&place->lock);
     memcpy(place->words, image, error ? size / 2 : size);
@@ -112,29 +139,26 @@ static bool is_done(uint16_t number)
         return true;
     hz_pager_fault_of(&fault);
     bool is_of_device = number == HZ_READ_FAILED || number == HZ_WRITE_FAILED || number == HZ_NEED_LOG;
-    HAS_TO_BE(is_of_device && fault.error == EIO, number);
-    faults++;
+    HAS_TO_BE(is_of_device ? fault.error == EIO : number == HZ_WRONG_PAGE, number);
     return false;
 }
 
 static void look(const hz_ref *ref)
 {
-    uint64_t word;
-    for (int i = 0; i < WORDS; i++) {
-        memcpy(&word, ref->bytes + 8 * i, 8);
-        HAS_TO_BE(word == newest[ref->page], ref->page);
-    }
+    look_at(ref->bytes, newest[ref->page], ref->page);
 }
 
 static void change(const hz_ref *ref)
 {
     uint64_t words[WORDS];
-    pthread_rwlock_rdlock(&records);
+    take_records(pthread_rwlock_rdlock);
     uint64_t lsn = ++log_end;
     for (int i = 0; i < WORDS; i++)
         words[i] = lsn;
     /* In two halves, of which nobody sees one. */
     HAS_TO_BE(hz_pager_put(ref, 0, (uint8_t *)words, SIZE / 2, lsn) == HZ_DONE, lsn);
+    if (lsn % 8 == 0)
+        sched_yield();
     HAS_TO_BE(hz_pager_put(ref, SIZE / 2, (uint8_t *)words, SIZE / 2, lsn) == HZ_DONE, lsn);
     newest[ref->page] = lsn;
     pthread_rwlock_unlock(&records);
@@ -152,31 +176,34 @@ static void use(uint64_t page, uint32_t how)
     HAS_TO_BE(hz_pager_unfix(&ref) == HZ_DONE, page);
 }
 
-/* Writes to a page of this thread's own, and drops it, whatever the device has of it. */
-static void use_scratch(uint64_t page)
+/* Writes to pages of this thread's own, and drops them, whatever the device has of them. */
+static void use_scratch(uint64_t first)
 {
     hz_ref ref;
     uint64_t resident;
     uint8_t is_resident;
-    newest[page] = 0;
-    if (is_done(hz_pager_new_page(&pager, page, &ref))) {
-        look(&ref), change(&ref);
-        HAS_TO_BE(hz_pager_unfix(&ref) == HZ_DONE, page);
-        use(page, HZ_EXCLUSIVE);
+    for (uint64_t page = first; page < first + DROPPED; page++) {
+        newest[page] = 0;
+        if (is_done(hz_pager_new_page(&pager, page, &ref))) {
+            look(&ref), change(&ref);
+            HAS_TO_BE(hz_pager_unfix(&ref) == HZ_DONE, page);
+            use(page, HZ_EXCLUSIVE);
+        }
     }
-    HAS_TO_BE(hz_pager_discard(&pager, page, 1, &resident) == HZ_DONE, page);
-    HAS_TO_BE(hz_pager_is_resident(&pager, page, &is_resident) == HZ_DONE && !is_resident, page);
+    HAS_TO_BE(hz_pager_discard(&pager, first, DROPPED, &resident) == HZ_DONE, first);
+    for (uint64_t page = first; page < first + DROPPED; page++)
+        HAS_TO_BE(hz_pager_is_resident(&pager, page, &is_resident) == HZ_DONE && !is_resident, page);
     discards += resident;
 }
 
 static void *work(void *number)
 {
-    uint64_t own = (uint64_t)(uintptr_t)number, state = own * 7919 + 1, many = 0;
+    uint64_t own = (uint64_t)(uintptr_t)number, many = 0;
     for (; !is_over; many++) {
-        uint64_t page = draw(&state, PAGES - SCRATCH);
-        switch (draw(&state, 20)) {
+        uint64_t page = draw(draw(2) ? HOT : LASTING);
+        switch (draw(20)) {
         case 0: is_done(hz_pager_flush(&pager, page)); break;
-        case 1: use_scratch(PAGES - SCRATCH + own); break;
+        case 1: use_scratch(LASTING + DROPPED * own); break;
         case 2: use(page, HZ_PINNED); break;
         case 3: case 4: case 5: case 6: case 7: case 8: use(page, HZ_EXCLUSIVE); break;
         default: use(page, HZ_SHARED);
@@ -197,17 +224,25 @@ static void *clean(void *unused)
     return unused;
 }
 
-/* After a checkpoint redo begins at no record from before it. */
+/* After a checkpoint redo begins at no record from before it, and the device has what was there before. A write that
+ * failed left the last word of a page. */
 static void *keep(void *unused)
 {
+    static uint64_t before[LASTING];
     while (!is_over) {
         uint64_t lsn, end;
         uint8_t has_lsn;
-        pthread_rwlock_wrlock(&records);
+        take_records(pthread_rwlock_wrlock);
         end = log_end + 1;
+        memcpy(before, newest, sizeof before);
         pthread_rwlock_unlock(&records);
         if (is_done(hz_pager_checkpoint(&pager, &lsn, &has_lsn))) {
             HAS_TO_BE(!has_lsn || lsn >= end, lsn);
+            for (int page = 0; page < LASTING; page++) {
+                pthread_mutex_lock(&places[page].lock);
+                HAS_TO_BE(places[page].words[WORDS - 1] >= before[page], page);
+                pthread_mutex_unlock(&places[page].lock);
+            }
             checkpoints++;
         }
         nanosleep(&(struct timespec){.tv_nsec = 5000000}, NULL);
@@ -233,7 +268,7 @@ static void rest(double seconds)
 }
 
 /* At the end the device does not fail, and has what was written last. */
-static void end(void)
+static void end(long growth)
 {
     uint64_t lsn;
     uint8_t has_lsn;
@@ -241,18 +276,21 @@ static void end(void)
     HAS_TO_BE(hz_pager_checkpoint(&pager, &lsn, &has_lsn) == HZ_DONE && !has_lsn, lsn);
     HAS_TO_BE(hz_pager_stats_of(&pager, &stats) == HZ_DONE && !stats.unsaved && !stats.pinned, stats.pinned);
     HAS_TO_BE(stats.evictions && stats.failed && stats.discards == discards, stats.discards);
-    for (int page = 0; page < PAGES - SCRATCH; page++)
+    for (int page = 0; page < LASTING; page++)
         for (int i = 0; i < WORDS; i++)
             HAS_TO_BE(places[page].words[i] == newest[page], page);
     HAS_TO_BE(faults && checkpoints && cleaned && discards, faults);
-    printf("%lu calls, %lu faults, %lu checkpoints, %lu pages cleaned, %lu discards\n", (unsigned long)calls,
-           (unsigned long)faults, (unsigned long)checkpoints, (unsigned long)cleaned, (unsigned long)discards);
+    printf("%lu calls, %lu evictions, %lu discards, %lu faults of the device, %lu checkpoints, ", (unsigned long)calls,
+           (unsigned long)stats.evictions, (unsigned long)discards, (unsigned long)faults, (unsigned long)checkpoints);
+    printf("memory grew by %ld bytes\n", growth);
+    HAS_TO_BE(growth <= MOST_GROWTH, growth);
     HAS_TO_BE(hz_pager_free(&pager) == HZ_DONE, 0);
 }
 
 int main(int words, char **word)
 {
     double seconds = words > 1 ? atof(word[1]) : 2;
+    states = 1000 * (words > 2 ? strtoul(word[2], NULL, 10) : 1);
     pthread_t threads[THREADS + 2];
     hz_io io = {places, read_page, write_page, make_log_durable, sync_device};
     hz_pager_config config = {0};
@@ -264,16 +302,17 @@ int main(int words, char **word)
     for (long i = 0; i < THREADS + 2; i++)
         HAS_TO_BE(!pthread_create(&threads[i], NULL, i < THREADS ? work : i == THREADS ? clean : keep, (void *)i), i);
     long first = 0, most = 0;
-    for (int quarter = 1; quarter <= 4; quarter++) {
-        rest(seconds / 4);
+    double each = seconds < 4 * MINUTE ? seconds / 4 : MINUTE;
+    for (double at = each; at <= seconds; at += each) {
+        rest(each);
         long now = resident_bytes();
-        printf("after %.1f s: %ld bytes\n", seconds * quarter / 4, now);
+        printf("after %.1f s: %ld bytes\n", at, now);
+        fflush(stdout);
         first = first ? first : now, most = most < now ? now : most;
     }
     is_over = true;
     for (int i = 0; i < THREADS + 2; i++)
         pthread_join(threads[i], NULL);
-    end();
-    HAS_TO_BE(most <= first + MOST_GROWTH, most);
+    end(most - first);
     return 0;
 }

@@ -1,8 +1,9 @@
 //! Many threads for as long as is wanted, over a device with faults. Memory stays as it is.
 //!
-//! `HOJZMATED_SOAK_SECONDS` says for how long, which is 2 seconds else. The memory of the program is told each
-//! minute, or each quarter of a time below four minutes. From the first minute on it does not grow by more than a
-//! twentieth.
+//! `HOJZMATED_SOAK_SECONDS` says for how long, which is 2 seconds else, and `HOJZMATED_SOAK_SEED` by which
+//! numbers, which are others each time else. The memory of the program is told each minute, or each
+//! quarter of a time below four minutes. From the first minute on it does not grow by more than a
+//! twentieth. The program ends at the first thing that is wrong, whichever thread finds it.
 #[path = "shared/engine.rs"]
 mod engine;
 #[path = "shared/faulty.rs"]
@@ -10,9 +11,12 @@ mod faulty;
 
 use engine::{Engine, Settings, Told};
 use faulty::Numbers;
+use std::io::{self, Write};
+use std::panic;
+use std::str::FromStr;
 use std::sync::atomic::{AtomicBool, Ordering};
 use std::time::{Duration, Instant};
-use std::{env, fs, thread};
+use std::{env, fs, process, thread};
 
 const THREADS: u64 = 64;
 const MINUTE: Duration = Duration::from_secs(60);
@@ -33,9 +37,21 @@ fn tell_size(at: Duration) -> Option<usize> {
     Some(size)
 }
 
-fn seconds() -> f64 {
-    let told = env::var("HOJZMATED_SOAK_SECONDS").ok();
-    told.map_or(2.0, |it| it.parse().expect("seconds"))
+/// What the environment says of this, if it does.
+fn told<T: FromStr>(name: &str) -> Option<T> {
+    let told = env::var(format!("HOJZMATED_SOAK_{name}")).ok()?;
+    Some(told.parse().ok().expect("a number"))
+}
+
+/// Has the program end where any thread panics, also one of the pager, which would go on. A fault of the
+/// device comes by no such way.
+fn end_at_a_panic(seed: Told) {
+    panic::set_hook(Box::new(move |panic| {
+        // What a test prints by a macro is kept until it ends.
+        let _ = writeln!(io::stderr(), "{panic}");
+        seed.tell();
+        process::exit(1);
+    }));
 }
 
 /// Memory at the end of each minute or quarter, and how many calls were made.
@@ -55,14 +71,13 @@ fn soak(engine: &Engine, seed: u64, time: Duration) -> (Vec<Option<usize>>, u64)
             .map(|thread| threads.spawn(move || work(thread)))
             .collect();
         let (began, mut sizes) = (Instant::now(), Vec::new());
-        while began.elapsed() < time && workers.iter().all(|it| !it.is_finished()) {
+        while began.elapsed() < time {
             thread::sleep(Duration::from_millis(10));
             let at = began.elapsed();
             if at >= each * (sizes.len() as u32 + 1) {
                 sizes.push(tell_size(at));
             }
         }
-        sizes.push(tell_size(began.elapsed()));
         has_ended.store(true, Ordering::Relaxed);
         let calls = workers.into_iter().map(|it| it.join().unwrap()).sum();
         (sizes, calls)
@@ -71,11 +86,11 @@ fn soak(engine: &Engine, seed: u64, time: Duration) -> (Vec<Option<usize>>, u64)
 
 #[test]
 fn soak_of_64_threads() {
-    let time = Duration::from_secs_f64(seconds());
-    let seed = 1 + u64::from(std::process::id());
-    let _told = Told(seed);
+    let time = Duration::from_secs_f64(told("SECONDS").unwrap_or(2.0));
+    let seed = told("SEED").unwrap_or(1 + u64::from(process::id()));
+    end_at_a_panic(Told(seed));
     let engine = Engine::new(&Settings {
-        pages: 1_024,
+        pages: 4_096,
         frames: 128,
         parts: 4,
         seed,
@@ -86,26 +101,24 @@ fn soak_of_64_threads() {
         .pager
         .start_cleaner(8, Duration::from_millis(1))
         .unwrap();
+    let readers = engine.pager.start_readers(2).unwrap();
     let (sizes, calls) = soak(&engine, seed, time);
-    drop(cleaner);
-    let (faults, kept) = (
-        engine.faults.load(Ordering::Relaxed),
-        engine.kept.load(Ordering::Relaxed),
+    drop((cleaner, readers));
+    let (first, most) = (sizes[0], *sizes.iter().max().unwrap());
+    let growth = first.zip(most).map(|(first, most)| most - first);
+    let totals = engine.pager.stats().totals;
+    let [faults, kept] =
+        [&engine.pager.io().faults, &engine.kept].map(|it| it.load(Ordering::Relaxed));
+    println!(
+        "seed {seed}: {calls} calls, {} evictions, {} discards, {faults} faults of the device, \
+         {kept} checkpoints, memory grew by {} bytes",
+        totals.evictions,
+        totals.discards,
+        growth.unwrap_or(0)
     );
-    let discards = engine.pager.stats().totals.discards;
-    println!("{calls} calls, {faults} faults, {kept} checkpoints, {discards} discards");
-    assert!(faults > 0 && kept > 0 && discards > 0);
-    let (first, most) = (sizes[0], sizes.iter().max().unwrap());
-    let may_grow = |first| {
-        if time < 4 * MINUTE {
-            MOST_GROWTH
-        } else {
-            first / 20
-        }
-    };
-    assert!(
-        *most <= first.map(|it| it + may_grow(it)),
-        "{first:?} grew to {most:?}"
-    );
+    assert!(faults > 0 && kept > 0 && totals.discards > 0);
+    let is_long = time >= 4 * MINUTE;
+    let may_grow = first.map(|it| if is_long { it / 20 } else { MOST_GROWTH });
+    assert!(growth <= may_grow, "{first:?} grew to {most:?}");
     engine.end();
 }

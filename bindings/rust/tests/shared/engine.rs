@@ -2,14 +2,21 @@
 //! page has the LSN of the page's newest write.
 use crate::faulty::{Broken, Device, HALVES, Numbers, SIZE, number_in, pause};
 use hojzmated::{Error, PageMut, PagePin, PagerError, SharedConfig, SharedPager};
+use std::io::{self, Write};
 use std::panic::{AssertUnwindSafe, catch_unwind, resume_unwind};
 use std::sync::atomic::{AtomicU64, Ordering};
 use std::sync::{Arc, Mutex, PoisonError, RwLock, TryLockError};
 use std::thread;
 use std::time::Duration;
 
-/// So many pages at the end of the file are for scratch: a thread writes to one, and drops it.
+/// So many pages at the end of the file are for scratch: a thread writes to two side by side, and drops
+/// them. The last two are temporary.
 const SCRATCH: u64 = 4;
+const DROPPED: u64 = 2;
+/// Half of the calls are for so many pages.
+const HOT: u64 = 64;
+/// So many pages are read ahead by one call.
+const AHEAD: u64 = 8;
 
 pub struct Settings {
     pub pages: u64,
@@ -30,7 +37,7 @@ pub struct Engine {
     /// How many pages were made. The others are made one after another.
     made: AtomicU64,
     making: Mutex<()>,
-    /// The scratch pages that nobody uses.
+    /// The first pages of the scratch ones that nobody uses.
     scratch: Mutex<Vec<u64>>,
     /// A thread has it shared from a log record to the end of its write.
     records: RwLock<()>,
@@ -44,10 +51,16 @@ pub struct Engine {
 /// Says of which seed a run was that fails.
 pub struct Told(pub u64);
 
+impl Told {
+    pub fn tell(&self) {
+        let _ = writeln!(io::stderr(), "the seed is {}", self.0);
+    }
+}
+
 impl Drop for Told {
     fn drop(&mut self) {
         if thread::panicking() {
-            eprintln!("the seed is {}", self.0);
+            self.tell();
         }
     }
 }
@@ -70,20 +83,23 @@ fn is_of_device(error: &PagerError) -> bool {
 
 impl Engine {
     pub fn new(settings: &Settings) -> Engine {
+        let (pages, scratch) = (settings.pages, settings.pages - SCRATCH..settings.pages);
+        let temporary = pages - DROPPED..pages;
         let config = SharedConfig {
             parts: settings.parts,
             correlated: settings.seed % 3 * settings.frames as u64 / 2,
             retained: 1_000,
             pin_wait: Duration::from_millis(if settings.several_in > 0 { 300 } else { 60_000 }),
-            ..SharedConfig::new(settings.pages, SIZE, settings.frames)
+            temporary: temporary.clone(),
+            ..SharedConfig::new(pages, SIZE, settings.frames)
         };
-        let device = Device::new(settings.pages, settings.seed, settings.faults_in);
+        let device = Device::new(pages, temporary, settings.seed, settings.faults_in);
         Engine {
             pager: Arc::new(SharedPager::new(&config, device).unwrap()),
-            newest: (0..settings.pages).map(|_| AtomicU64::default()).collect(),
-            made: AtomicU64::new(settings.pages / 2),
+            newest: (0..pages).map(|_| AtomicU64::default()).collect(),
+            made: AtomicU64::new(pages / 2),
             making: Mutex::default(),
-            scratch: Mutex::new((settings.pages - SCRATCH..settings.pages).collect()),
+            scratch: Mutex::new(scratch.step_by(DROPPED as usize).collect()),
             records: RwLock::default(),
             checkpoints: Mutex::default(),
             several_in: settings.several_in,
@@ -116,7 +132,8 @@ impl Engine {
             return self.take_several(numbers);
         }
         let pages = self.made.load(Ordering::Acquire);
-        let page = numbers.below(pages);
+        let end = [pages, pages.min(HOT)][numbers.below(2) as usize];
+        let page = numbers.below(end);
         match numbers.below(200) {
             0..70 => self.look(page, &self.pager.read(page)?),
             70..130 => self.change(&mut [self.pager.write(page)?]),
@@ -135,7 +152,8 @@ impl Engine {
             190..192 => self.checkpoint()?,
             192 => drop(self.pager.purge()?),
             193 => assert!(self.pager.stats().resident <= self.pager.config().frames),
-            194..197 => self.use_scratch()?,
+            194 => drop(self.pager.prefetch(page..pages.min(page + AHEAD))),
+            195..197 => self.use_scratch()?,
             _ => self.make_page()?,
         }
         Ok(())
@@ -150,7 +168,7 @@ impl Engine {
         }
     }
 
-    /// Fills pages, each by two writes, under one log record.
+    /// Fills pages, each in one of three ways, under one log record.
     fn change(&self, pages: &mut [PageMut<'_>]) {
         for page in pages.iter() {
             self.look(page.page(), page.bytes());
@@ -158,11 +176,7 @@ impl Engine {
         let record = self.records.read().unwrap();
         let lsn = self.pager.io().log_end.fetch_add(1, Ordering::AcqRel) + 1;
         for page in pages.iter_mut() {
-            for half in HALVES {
-                let bytes = lsn.to_le_bytes().repeat(half.len() / 8);
-                page.put(half.start, &bytes, lsn).unwrap();
-                pause(lsn);
-            }
+            fill(page, lsn);
             self.newest[page.page() as usize].store(lsn, Ordering::Release);
         }
         drop(record);
@@ -236,14 +250,22 @@ impl Engine {
         self.newest.len() - SCRATCH as usize
     }
 
-    /// Writes to a page that no other thread uses, and drops it, whatever the device has of it.
+    /// Writes to pages that no other thread uses, and drops them, whatever the device has of them.
     fn use_scratch(&self) -> Result<(), PagerError> {
         let free = self.scratch.lock().unwrap().pop();
-        let Some(scratch) = free.map(|page| Scratch { engine: self, page }) else {
+        let Some(first) = free else {
             return Ok(());
         };
-        self.change(&mut [self.pager.new_page(scratch.page)?]);
-        self.change(&mut [self.pager.write(scratch.page)?]);
+        let _scratch = Scratch {
+            engine: self,
+            first,
+        };
+        for page in first..first + DROPPED {
+            self.change(&mut [self.pager.new_page(page)?]);
+        }
+        for page in first..first + DROPPED {
+            self.change(&mut [self.pager.write(page)?]);
+        }
         Ok(())
     }
 
@@ -259,7 +281,7 @@ impl Engine {
     }
 
     /// What was written before a checkpoint began is kept by the device afterwards, as far as the log
-    /// may be cut.
+    /// may be cut. The checkpoint is of all pages, by age, or of what went out by itself.
     fn checkpoint(&self) -> Result<(), PagerError> {
         let _turn = match self.checkpoints.try_lock() {
             Ok(turn) => turn,
@@ -273,7 +295,15 @@ impl Engine {
             let newest = newest.map(|it| it.load(Ordering::Acquire));
             (device.end_of_log() + 1, newest.collect::<Vec<_>>())
         };
-        let redo = self.pager.checkpoint()?.unwrap_or(end);
+        let redo = match end % 3 {
+            0 => self.pager.checkpoint()?,
+            1 => self
+                .pager
+                .flush_before(end)
+                .and_then(|()| self.pager.sync())?,
+            _ => self.pager.sync()?,
+        };
+        let redo = redo.unwrap_or(end);
         for (page, lsn) in (0..).zip(newest) {
             let is_cut = lsn < redo.min(end);
             assert!(
@@ -306,19 +336,37 @@ impl Engine {
     }
 }
 
-/// A scratch page that a thread uses.
+/// Puts a number into each word of a page: at two places at once, in place, or in two halves.
+fn fill(page: &mut PageMut<'_>, lsn: u64) {
+    let half = lsn.to_le_bytes().repeat(SIZE / 16);
+    let mut puts = HALVES.map(|it| (it.start, half.as_slice())).into_iter();
+    let filled = match lsn % 3 {
+        0 => page.put_each(puts.as_slice(), lsn),
+        1 => page.edit(.., lsn, |bytes| bytes.copy_from_slice(&half.repeat(2))),
+        _ => puts.try_for_each(|(start, half)| {
+            pause(lsn);
+            page.put(start, half, lsn)
+        }),
+    };
+    filled.unwrap();
+}
+
+/// Scratch pages that a thread uses.
 struct Scratch<'a> {
     engine: &'a Engine,
-    page: u64,
+    first: u64,
 }
 
 impl Drop for Scratch<'_> {
-    /// Drops the page, also where its use did not go well.
+    /// Drops the pages, also where their use did not go well.
     fn drop(&mut self) {
-        let pager = &self.engine.pager;
-        pager.discard(self.page).unwrap();
-        assert!(!pager.is_resident(self.page));
-        self.engine.newest[self.page as usize].store(0, Ordering::Release);
-        self.engine.scratch.lock().unwrap().push(self.page);
+        let (engine, first) = (self.engine, self.first);
+        engine.pager.discard(first).unwrap();
+        engine.pager.discard_from(first, DROPPED).unwrap();
+        for page in first..first + DROPPED {
+            assert!(!engine.pager.is_resident(page));
+            engine.newest[page as usize].store(0, Ordering::Release);
+        }
+        engine.scratch.lock().unwrap().push(first);
     }
 }

@@ -65,6 +65,8 @@ const OF_LOG: u64 = 400;
 
 pub struct Device {
     places: Vec<Place>,
+    /// Pages that go out under no log record.
+    temporary: Range<u64>,
     pub log_end: AtomicU64,
     durable: AtomicU64,
     is_at_log: AtomicBool,
@@ -72,6 +74,8 @@ pub struct Device {
     numbers: AtomicU64,
     /// Of so many requests one fails, one panics, and one finds another page. None where it is 0.
     pub faults_in: AtomicU64,
+    /// The requests that did not go well.
+    pub faults: AtomicU64,
     pub reads: AtomicU64,
     pub writes: AtomicU64,
 }
@@ -93,7 +97,7 @@ impl Drop for Alone<'_> {
 }
 
 impl Device {
-    pub fn new(pages: u64, seed: u64, faults_in: u64) -> Device {
+    pub fn new(pages: u64, temporary: Range<u64>, seed: u64, faults_in: u64) -> Device {
         let place = |_| Place {
             bytes: Mutex::new([0; SIZE]),
             is_used: AtomicBool::default(),
@@ -102,12 +106,14 @@ impl Device {
         };
         Device {
             places: (0..pages).map(place).collect(),
+            temporary,
             log_end: AtomicU64::default(),
             durable: AtomicU64::default(),
             is_at_log: AtomicBool::default(),
             log_turn: Mutex::default(),
             numbers: AtomicU64::new(seed),
             faults_in: AtomicU64::new(faults_in),
+            faults: AtomicU64::default(),
             reads: AtomicU64::default(),
             writes: AtomicU64::default(),
         }
@@ -129,22 +135,26 @@ impl Device {
         }
     }
 
-    /// Takes its time, up to so many microseconds, and may fail.
-    fn work(&self, most: u64) -> Result<(), ReadFault> {
+    /// Takes its time, up to so many microseconds, and may fail, in the first so many of three ways.
+    fn work(&self, most: u64, ways: u64) -> Result<(), ReadFault> {
         self.rest(most);
-        match self.faults_in.load(Ordering::Relaxed) {
-            0 => Ok(()),
-            faults_in => match self.below(faults_in) {
-                0 => Err(io::Error::other("no such luck").into()),
-                1 => resume_unwind(Box::new(Broken)),
-                2 => Err(ReadFault::WrongPage),
-                _ => Ok(()),
-            },
+        let way = match self.faults_in.load(Ordering::Relaxed) {
+            0 => ways,
+            faults_in => self.below(faults_in),
+        };
+        if way >= ways {
+            return Ok(());
+        }
+        self.faults.fetch_add(1, Ordering::Relaxed);
+        match way {
+            0 => Err(io::Error::other("no such luck").into()),
+            1 => resume_unwind(Box::new(Broken)),
+            _ => Err(ReadFault::WrongPage),
         }
     }
 
     fn write_or_fail(&self, most: u64) -> io::Result<()> {
-        match self.work(most) {
+        match self.work(most, 2) {
             Err(ReadFault::Device(error)) => Err(error),
             Err(ReadFault::WrongPage) | Ok(()) => Ok(()),
         }
@@ -178,7 +188,7 @@ impl PageIo for Device {
         let place = self.place(page);
         let _alone = Alone::at(&place.is_used);
         image.fill(0xa5);
-        self.work(OF_PAGE)?;
+        self.work(OF_PAGE, 3)?;
         image.copy_from_slice(place.bytes.lock().unwrap().as_slice());
         assert_eq!(
             number_in(image),
@@ -193,7 +203,13 @@ impl PageIo for Device {
     fn write_page(&self, page: u64, image: &mut [u8], lsn: u64) -> io::Result<()> {
         let place = self.place(page);
         let _alone = Alone::at(&place.is_used);
-        assert_eq!(number_in(image), lsn, "page {page}");
+        let number = number_in(image);
+        let wanted = if self.temporary.contains(&page) {
+            0
+        } else {
+            number
+        };
+        assert_eq!(wanted, lsn, "page {page}");
         assert!(
             lsn <= self.durable.load(Ordering::Acquire),
             "page {page} ahead of the log"
@@ -202,7 +218,7 @@ impl PageIo for Device {
         place.bytes.lock().unwrap()[first.clone()].copy_from_slice(&image[first]);
         self.write_or_fail(OF_PAGE)?;
         place.bytes.lock().unwrap()[second.clone()].copy_from_slice(&image[second]);
-        place.saved.store(lsn, Ordering::Release);
+        place.saved.store(number, Ordering::Release);
         self.writes.fetch_add(1, Ordering::Relaxed);
         image.fill(0xa5);
         Ok(())
