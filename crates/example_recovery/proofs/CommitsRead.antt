@@ -165,7 +165,7 @@ change-same lsn x y r s fx fy e =
     let bytes : x.bytes ≡ y.bytes = sym (take_at x.bytes r (length x.bytes) refl) ∙ ap (take (length x.bytes)) three.1 ∙ take_at y.bytes s (length x.bytes) (sym three.0) in
     (same-record x y one.0 two.0 bytes (fx.under ∙ sym fy.under), append_cancel_left y.bytes r s (subst (λ (t : List ℕ). t ++ r ≡ y.bytes ++ s) bytes three.1))
 
-payload-same : (lsn : ℕ) (xs ys : List LogRecord) → AreChanges lsn xs → AreChanges lsn ys → payload_of xs ≡ payload_of ys → xs ≡ ys
+pub payload-same : (lsn : ℕ) (xs ys : List LogRecord) → AreChanges lsn xs → AreChanges lsn ys → payload_of xs ≡ payload_of ys → xs ≡ ys
 payload-same lsn [] [] f g e = refl
 payload-same lsn [] (y ∷ ys) f g e = let n : 0 ≡ length (change_bytes y ++ payload_of ys) = ap (λ (t : List ℕ). length t) e in absurd (omega (arith, length-append (change_bytes y) (payload_of ys), length-change y))
 payload-same lsn (x ∷ xs) [] f g e = let n : length (change_bytes x ++ payload_of xs) ≡ 0 = ap (λ (t : List ℕ). length t) e in absurd (omega (arith, length-append (change_bytes x) (payload_of xs), length-change x))
@@ -173,7 +173,7 @@ payload-same lsn (x ∷ xs) (y ∷ ys) f g e =
     let h = change-same lsn x y (payload_of xs) (payload_of ys) f.0 g.0 e in
     ap (λ (r : LogRecord). r ∷ xs) h.0 ∙ ap (λ (t : List LogRecord). y ∷ t) (payload-same lsn xs ys f.1 g.1 h.1)
 
-head-same : (x y : List ℕ) (xs ys : List (List ℕ)) → x ∷ xs ≡ y ∷ ys → (x ≡ y) × (xs ≡ ys)
+pub head-same : (x y : List ℕ) (xs ys : List (List ℕ)) → x ∷ xs ≡ y ∷ ys → (x ≡ y) × (xs ≡ ys)
 head-same x y xs ys e = let a : x ≡ y = cc in let b : xs ≡ ys = cc in (a, b)
 
 commits-front : (lsn : ℕ) (xs ys : List (List LogRecord)) (more : List (List ℕ)) → AreCommits lsn xs → AreCommits lsn ys → map payload_of xs ≡ map payload_of ys ++ more → (lost : List (List LogRecord)) × (xs ≡ ys ++ lost)

@@ -8,3 +8,4 @@ pub mod PoolLives
 pub mod Tables
 pub mod Tabling
 pub mod Pools
+pub mod Openings

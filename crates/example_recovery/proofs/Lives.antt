@@ -197,7 +197,7 @@ module _ (first : List ℕ) (start : ℕ) (alive : Bool) (calls : List FileCall)
   kept = frames start (take durable log)
 
   -- what was synced stays
-  front-is : left ≡ kept ++ drop (length kept) left
+  pub front-is : left ≡ kept ++ drop (length kept) left
   front-is =
       let front = frames-front start durable log in
       let room = is.room in

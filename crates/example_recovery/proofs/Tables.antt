@@ -84,7 +84,7 @@ changes-append : (xs ys : List (List LogRecord)) → changes_of (xs ++ ys) ≡ c
 changes-append [] ys = refl
 changes-append (x ∷ xs) ys = ap (λ (t : List LogRecord). x ++ t) (changes-append xs ys) ∙ sym (append_assoc x (changes_of xs) (changes_of ys))
 
-filter-reverse : (f : LogRecord → Bool) (xs : List LogRecord) → filter f (reverse xs) ≡ reverse (filter f xs)
+pub filter-reverse : (f : LogRecord → Bool) (xs : List LogRecord) → filter f (reverse xs) ≡ reverse (filter f xs)
 filter-reverse f [] = refl
 filter-reverse f (x ∷ xs) =
     ap (filter f) (reverse-append (x ∷ []) xs) ∙ filter-append f (reverse xs) (x ∷ []) ∙ ap (λ (t : List LogRecord). t ++ filter f (x ∷ [])) (filter-reverse f xs) ∙ go (f x)
@@ -247,6 +247,7 @@ ran-then c table file start alive past synced calls log_calls commits count pend
         pool = h.life;
         written = ran.written ∙ ap (λ (t : Trail). pending ++ writes_of t) h.parts ∙ ap (λ (t : List LogRecord). pending ++ t) (writes-append h.since h.old) ∙ sym (append_assoc pending (writes_of h.since) (writes_of h.old));
         mark = (let m = mark-then h.since h.old in let n = subst (λ (t : Trail). durable t < start + count) h.parts ran.mark in omega arith);
+        named = ran.named;
         kept = λ p. none-front (discards p) h.since h.old (subst (λ (t : Trail). some (discards p) t ≡ false) h.parts (ran.kept p));
       },
     )

@@ -199,6 +199,7 @@ module _ {S P : Type 0} (reads writes : Transfer S) (syncs : StoreSync S) (page_
               pool = is.ran.pool;
               written = is.ran.written;
               mark = (let m = is.ran.mark in let k = count in let more = at-least b n in omega arith);
+              named = (let m = is.ran.named in let more = at-least b n in omega arith);
               kept = is.ran.kept;
             };
             file_is = subst (λ (xs : List (List ℕ)). IsLogFile file start (g.more ++ log_calls) xs g.durable new_log) g.is_so.0 g.is;
@@ -231,6 +232,7 @@ module _ {S P : Type 0} (reads writes : Transfer S) (syncs : StoreSync S) (page_
           pool = life;
           written = told;
           mark = mark;
+          named = is.ran.named;
           kept = kept;
         };
         file_is = is.file_is;
@@ -443,6 +445,7 @@ module _ {S P : Type 0} (reads writes : Transfer S) (syncs : StoreSync S) (page_
             written = ap reverse (changes_of-push commits commit) ∙ reverse-append (changes_of commits) commit
                 ∙ ap (λ (t : List LogRecord). reverse commit ++ t) (is.ran.written ∙ ap (λ (t : List LogRecord). t ++ writes_of old.core.past) none);
             mark = is.ran.mark;
+            named = is.ran.named;
             kept = is.ran.kept;
           };
           file_is = there;
@@ -479,7 +482,7 @@ module _ {S P : Type 0} (reads writes : Transfer S) (syncs : StoreSync S) (page_
                 did = refl;
                 log_did = g.did;
                 is = record {
-                  ran = record { log = there.life; are = is.ran.are; legal = is.ran.legal; pool = is.ran.pool; written = is.ran.written; mark = is.ran.mark; kept = is.ran.kept };
+                  ran = record { log = there.life; are = is.ran.are; legal = is.ran.legal; pool = is.ran.pool; written = is.ran.written; mark = is.ran.mark; named = is.ran.named; kept = is.ran.kept };
                   file_is = there;
                 };
                 is_so = (refl, refl, refl);
@@ -512,6 +515,7 @@ table-begins table file start log_calls pool log none is = record {
     pool = subst (λ (t : Trail). PoolLife t [] []) (sym none) opened;
     written = ap writes_of (sym none);
     mark = subst (λ (t : Trail). durable t < start + 1) (sym none) (omega arith);
+    named = omega arith;
     kept = λ p. ap (some (discards p)) none;
   };
   file_is = is;

@@ -17,3 +17,5 @@ pub mod PoolLives
 -- A table, as its calls leave it.
 pub mod Tables
 pub mod TableCalls
+-- Which of two files has the log, and what an opening does.
+pub mod Opening

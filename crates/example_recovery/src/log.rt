@@ -26,6 +26,8 @@ pub enum LogFault {
     OtherTable,
     #[error("the LSNs of the log do not go up by one")]
     UnevenLsn,
+    #[error("two logs begin at the same LSN")]
+    TwoLogs,
     #[error("a record of the log has no changes")]
     NoChanges,
 }
@@ -69,6 +71,21 @@ impl<S: Store> LogFile<S> {
             end: 0,
             next: 0,
             is_ended: true,
+        }
+    }
+
+    /// Reads the whole file. `Memory`, and `Device` where the file fails or is shorter.
+    pub fn read_all(&mut self, alloc: Global) -> Result<Vec<u8>, LogFault>
+        ensures read { IfOk result (λ v. (length v.items ≡ self.old.size)
+            × S.reads self.old.store 0 v.items true self.new.store) }
+        ensures unread { OnErr result ((self.new.store ≡ self.old.store)
+            ⊎ ((bytes : List ℕ) × S.reads self.old.store 0 bytes false self.new.store)) }
+        ensures same { SamePlace self.old self.new }
+    {
+        let mut bytes = vec![in alloc; 0u8; self.size]?;
+        match self.store.read_slot(0, &mut bytes) {
+            Ok(()) => Ok(bytes),
+            Err(_) => Err(LogFault::Device),
         }
     }
 

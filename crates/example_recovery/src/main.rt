@@ -4,6 +4,7 @@
 
 mod frames;
 mod log;
+mod opening;
 mod reading;
 mod redo;
 mod table;
@@ -13,7 +14,7 @@ use bp_page::{Bytes, Geometry, Image, Lsn, PageNo, Refusal};
 use bp_ports::{MemDevice, MemPort, Port};
 use bp_trail::LogRecord;
 use log::LogFile;
-use redo::recover;
+use opening::open;
 use std::alloc::Global;
 use std::fs::{self, File};
 use std::rt::{Files, Runtime};
@@ -25,7 +26,10 @@ const ROW: u32 = 16;
 /// The first record of the log: what its table is.
 const NAME: &[u8] = b"rows of 16 bytes, in 4 pages of 64";
 
-const LOG: &str = "example_recovery.log";
+/// The files that the log is in by turns, and their bytes.
+const LOGS: [&str; 2] = ["example_recovery.0.log", "example_recovery.1.log"];
+
+const LOG_SIZE: usize = 4096;
 
 /// Makes a change of a row, each byte of which is to be this one.
 fn row(alloc: Global, page: u64, row: u8, byte: u8) -> Result<LogRecord, Refusal> {
@@ -49,17 +53,34 @@ fn show(rt: &impl Runtime, page: u64, image: &Image) -> Result<(), anyhow::Error
     Ok(())
 }
 
-/// Makes a log, and a table whose commits it is to have.
+/// Takes a file of the log, or makes it.
+fn log_file(
+    rt: &(impl Runtime + Files<File = File>),
+    name: &str,
+) -> Result<LogFile<File>, anyhow::Error> {
+    let mut options = File::options();
+    let file = options.read(true).write(true).create(true).open(rt, name)?;
+    Ok(LogFile::over(file, LOG_SIZE))
+}
+
+/// Makes a table over the pages as they are.
 fn begin(
+    rt: &impl Runtime<A = Global>,
+    port: MemPort,
+    log: LogFile<File>,
+) -> Result<Table<File, MemPort>, anyhow::Error> {
+    Ok(Table::begin(rt.alloc(), port, Settings::new(2, 0, 1000)?, 2, log)?)
+}
+
+/// Makes both files of the log, and a table.
+fn create(
     rt: &(impl Runtime<A = Global> + Files<File = File>),
     port: MemPort,
 ) -> Result<Table<File, MemPort>, anyhow::Error> {
-    let alloc = rt.alloc();
-    let mut options = File::options();
-    let file = options.read(true).write(true).create(true).open(rt, LOG)?;
-    let mut log = LogFile::over(file, 4096);
-    log.begin(alloc, 1, NAME)?;
-    Ok(Table::begin(alloc, port, Settings::new(2, 0, 1000)?, 2, log)?)
+    log_file(rt, LOGS[0])?.begin(rt.alloc(), 1, NAME)?;
+    let mut log = log_file(rt, LOGS[1])?;
+    log.begin(rt.alloc(), 2, NAME)?;
+    begin(rt, port, log)
 }
 
 /// Commits these rows: the page of each, its number there, and its byte.
@@ -88,28 +109,34 @@ fn work(
     commit(rt, table, &[(2, 0, b'e')])
 }
 
-/// Opens the table again, and prints what its pages have.
+/// Opens the table after a crash, and goes on.
 fn reopen(
     rt: &(impl Runtime<A = Global> + Files<File = File> + Wait),
-    port: &mut MemPort,
-) -> Result<(), anyhow::Error> {
-    let bytes = fs::read(rt, LOG)?;
-    let found = recover(rt, rt.alloc(), &bytes, NAME, port)?;
-    println!(rt; "opened with the commits up to LSN {}", found.last)?;
+    mut port: MemPort,
+) -> Result<Table<File, MemPort>, anyhow::Error> {
+    let (mut one, mut two) = (log_file(rt, LOGS[0])?, log_file(rt, LOGS[1])?);
+    let is_second = open(rt, rt.alloc(), NAME, &mut port, &mut one, &mut two)?;
+    println!(rt; "opened: the log goes on in file {}", u8::from(is_second))?;
     for page in 0..4 {
         show(rt, page, &port.read(rt, PageNo::new(page))?)?;
     }
-    Ok(())
+    begin(rt, port, if is_second { two } else { one })
 }
 
 fn main(rt: HostRuntime) -> Result<(), anyhow::Error> {
     let device = MemDevice::new(rt.alloc(), Geometry::new(4, 64)?)?;
-    let mut table = begin(&rt, device.port()?)?;
+    let mut table = create(&rt, device.port()?)?;
     let worked = work(&rt, &mut table);
     // What the pool has in its frames is gone, as after a crash.
     drop(table);
     worked?;
-    reopen(&rt, &mut device.port()?)?;
-    fs::remove_file(&rt, LOG)?;
+    let mut table = reopen(&rt, device.port()?)?;
+    let worked = commit(&rt, &mut table, &[(0, 3, b'f')]);
+    drop(table);
+    worked?;
+    drop(reopen(&rt, device.port()?)?);
+    for name in LOGS {
+        fs::remove_file(&rt, name)?;
+    }
     Ok(())
 }

@@ -2,6 +2,7 @@
 ghost use Rattle.std.specs.Prelude.{◌≡◌, ◌++◌, ◌+◌, ℕ, Bool, List, length, IfOk, OnOk};
 ghost use Rattle.bp_trail.specs.declared.records.LogRecord.{LogRecord as Record};
 ghost use Rattle.example_recovery.specs.Commits.{IsChange, AreChanges, AreCommits, HasCommits, Kept, change_bytes, payload_of, log_of};
+ghost use Rattle.example_recovery.specs.Frames.{IsRecord, frame};
 ghost use Rattle.example_recovery.specs.Files.{FileCall, FileLeaves, synced, written};
 ghost use Rattle.example_recovery.specs.Lives.{LogLife, TellsTrue};
 
@@ -78,6 +79,21 @@ pub struct FoundLog {
     pub first: u64,
     pub last: u64,
     pub changes: Vec<LogRecord>,
+}
+
+/// Returns the LSN of the first record, which names the table, or 0 where no record stands at the front of these bytes.
+/// `OtherTable` where it names another one.
+pub fn first_lsn(bytes: &[u8], table: &[u8]) -> Result<u64, LogFault>
+    ensures { IfOk result (λ first. (lsn : ℕ) (payload rest : List ℕ) → IsRecord lsn payload →
+        bytes.now ≡ frame lsn payload ++ rest → lsn ≡ first) }
+{
+    let Some(head) = read_frame(bytes) else {
+        return Ok(0);
+    };
+    if head.payload != table {
+        return Err(LogFault::OtherTable);
+    }
+    Ok(head.lsn)
 }
 
 /// Reads a log, up to the first record that is cut off or has a wrong checksum. `NoLog`, `OtherTable`, `UnevenLsn` or

@@ -5,23 +5,21 @@ ghost use Rattle.bp_trail.specs.Parameters.{Parameters};
 ghost use Rattle.bp_trail.specs.Trail.{Trail};
 ghost use Rattle.bp_trail.specs.Images.{written_into};
 ghost use Rattle.bp_trail.specs.Recovery.{NeverFall, Stopped, put, records_from, redo, wanted, within};
-ghost use Rattle.example_recovery.specs.Commits.{HasCommits, Kept};
+ghost use Rattle.example_recovery.specs.Commits.{Kept};
 ghost use Rattle.example_recovery.specs.Disk.{DeviceCall, Did, Honest, MayLeave};
 ghost use Rattle.example_recovery.specs.Files.{FileCall, FileLeaves, synced as synced_bytes, written as written_bytes};
 ghost use Rattle.example_recovery.specs.Lives.{TellsTrue};
+ghost use Rattle.example_recovery.specs.Opening.{BeginsBefore, FindsLog};
 ghost use Rattle.example_recovery.specs.PoolLives.{IsSound};
 ghost use Rattle.example_recovery.specs.Promise.{IsMended, MayBeRedone, PoolLeaves, Recovers};
 ghost use Rattle.example_recovery.specs.Steps.{Begins, Redoes};
-ghost use Rattle.example_recovery.specs.Tables.{Opens, TableRan};
+ghost use Rattle.example_recovery.specs.Tables.{TableRan};
 
-use crate::log::LogFault;
-use crate::reading::{FoundLog, read_log};
 use bp_page::{Image, Lsn, PageNo, Refusal};
 use bp_ports::Port;
 use bp_trail::{LogRecord, redo_page, refusal_of_read};
 use std::alloc::Global;
 use std::sync::Wait;
-use thiserror::Error;
 
 /// Returns true if redo of a page from an LSN on wants this record.
 fn is_wanted(change: &LogRecord, from: Lsn, page: PageNo) -> bool
@@ -124,52 +122,20 @@ pub fn redo_pages<R: Wait, P: Port>(
     }
 }
 
-/// Why a table was not opened.
-#[derive(Clone, Copy, PartialEq, Eq, Debug, Drop, Error)]
-pub enum OpenFault {
-    #[error("{0}")]
-    Log(LogFault),
-    #[error("{0}")]
-    Pages(Refusal),
-}
-
-/// Opens a table after a crash: reads its log, and puts all commits that are there into the pages, durably. It may be
-/// stopped at any moment, and begun again. `Log` where the bytes are no log of this table: no page is then read or
-/// written. `Pages` as from `redo_pages`.
-pub fn recover<R: Wait, P: Port>(
-    rt: &R,
-    alloc: Global,
-    bytes: &[u8],
-    table: &[u8],
-    port: &mut P,
-) -> Result<FoundLog, OpenFault>
-    ensures { Opens P.read_gives P.write_gives P.sync_gives (P.geometry_of port.old) table.now
-        bytes.now port.old result port.new }
-{
-    let found = match read_log(alloc, bytes, table) {
-        Ok(found) => found,
-        Err(fault) => return Err(OpenFault::Log(fault)),
-    };
-    match redo_pages(rt, alloc, port, &found.changes, Lsn::new(0)) {
-        Ok(()) => Ok(found),
-        Err(why) => Err(OpenFault::Pages(why)),
-    }
-}
-
-/// Stop a table at any moment of its device. What is read of the log are then the first commits, each whole, and no
-/// fewer than were synced; and whatever the device has may be redone, to what these commits make of the first images.
-/// It does nothing: its contract is the law.
+/// Stop a table at any moment of its device. What is found of its log, whatever the other file has from before, are then
+/// the first commits, each whole, and no fewer than were synced; and whatever the device has may be redone, to what these
+/// commits make of the first images. It does nothing: its contract is the law.
 pub fn a_crash_is_mended()
-    ensures { (c : Parameters) (tears : Bool) (first left : ℕ → List ℕ) (table file bytes : List ℕ)
-        (start : ℕ) (alive : Bool) (past synced : Trail) (calls later so_far : List DeviceCall)
-        (log_calls : List FileCall) (commits : List (List Record)) (durable found last : ℕ)
-        (changes pending : List Record) →
+    ensures { (c : Parameters) (tears : Bool) (first left : ℕ → List ℕ)
+        (table file bytes other : List ℕ) (start : ℕ) (alive : Bool) (past synced : Trail)
+        (calls later so_far : List DeviceCall) (log_calls : List FileCall)
+        (commits : List (List Record)) (durable found last : ℕ) (changes pending : List Record) →
         TableRan c table file start alive past synced calls log_calls commits durable pending →
         Honest tears first calls → ((p : ℕ) → length (first p) ≡ c.size) → calls ≡ later ++ so_far →
         FileLeaves file log_calls bytes →
         TellsTrue start (synced_bytes file log_calls) (written_bytes file log_calls) bytes →
-        ((p : ℕ) → MayLeave tears first so_far p (left p)) →
-        HasCommits table bytes found last changes →
+        BeginsBefore start other → ((p : ℕ) → MayLeave tears first so_far p (left p)) →
+        FindsLog table bytes other found last changes →
         ((p : ℕ) → IsSound tears c.size 0 (reverse changes) so_far p) →
         Kept start durable commits found last changes × MayBeRedone tears c.size 0 (reverse changes)
         (λ p. redo 0 (reverse changes) p (first p)) left }

@@ -1,0 +1,17 @@
+use Rattle.std.proofs.Common.{◌+◌, ◌≤◌, length, ap, subst, arith}
+use Rattle.std.proofs.lemmas.List.{take_all}
+use Rattle.example_recovery.specs.Opening.{AreWithin}
+use Rattle.example_recovery.proofs.Openings.{within-next}
+use Rattle.example_recovery.proofs.opening.check.Goals as goal
+
+pub loop-change-init : goal.loop-change-init
+loop-change-init c = tt
+
+pub loop-change-preserved : goal.loop-change-preserved
+loop-change-preserved c =
+    let fits : c.change-item.result.offset + length c.bytes.result.now ≤ c.args.device.now.size = c.fits.ensures.0 c.if-not-fits.false in
+    within-next c.args.device.now.pages c.args.device.now.size c.args.changes.now c.loop-change.change-index c.change-item.result c.loop-change-test.true c.change-item.is c.loop-change.invariant
+    (omega (arith, c.number.ensures)) (omega (arith, fits, ap (λ t. length t) c.bytes.ensures))
+
+pub returns : goal.returns
+returns c = subst (AreWithin c.args.device.now.pages c.args.device.now.size) (take_all c.loop-change.change-index c.args.changes.now c.loop-change-test.false) c.loop-change.invariant
