@@ -49,6 +49,7 @@ keeps_hit client page n said after held held' tickets kept kept' copies c c' h h
       entries_fit = omega (arith, len, more, same_c, entries);
       passes_fit = omega (arith, same_h, passes);
       copies_fit = r.copies_fit;
+      counted = omega (arith, r.counted, more, ap length grows);
     }
 
 pub keeps_loaded : (client : ℕ) (said after : Trail) (held held' : List Grant) (tickets kept kept' copies copies' : ℕ) (c c' h h' : ℕ) (ticket : ReadTicket) (n : ℕ) (image : List ℕ)
@@ -67,6 +68,7 @@ keeps_loaded client said after held held' tickets kept kept' copies copies' c c'
       entries_fit = omega (arith, r.entries_fit, len, more, same_c, fewer, r.tickets_are);
       passes_fit = omega (arith, r.passes_fit, same_h, fewer, r.tickets_are);
       copies_fit = omega (arith, r.copies_fit, most, fewer, r.tickets_are);
+      counted = omega (arith, r.counted, more, ap length grows);
     }
 
 -- a read that failed gives no pass and no ticket
@@ -88,6 +90,7 @@ keeps_not_loaded client said after held tickets kept kept' copies c c' h ticket 
       entries_fit = omega (arith, r.entries_fit, more, same_c, fewer, r.tickets_are);
       passes_fit = omega (arith, r.passes_fit);
       copies_fit = omega (arith, r.copies_fit);
+      counted = omega (arith, r.counted, more, ap length grows);
     }
 
 -- what the core refuses it with is what the list's entry says
@@ -113,6 +116,7 @@ keeps_written client said after held tickets kept kept' copies c c' h ticket pag
       entries_fit = omega (arith, r.entries_fit, more, same_c, fewer, r.tickets_are);
       passes_fit = omega (arith, r.passes_fit);
       copies_fit = omega (arith, r.copies_fit);
+      counted = omega (arith, r.counted, more, ap length grows);
     }
   where
     plain-with : (client page : ℕ) (reply : Reply) → plain_reply reply ≡ true → (pass_given client page reply ≡ None) × (tickets_given reply ≡ 0)

@@ -53,4 +53,5 @@ keeps_unfixed client said after held held' tickets kept kept' copies c c' h h' g
       entries_fit = omega (arith, r.entries_fit, fewer, more, same_c);
       passes_fit = omega (arith, r.passes_fit, same_h);
       copies_fit = r.copies_fit;
+      counted = omega (arith, r.counted, more, ap length grows);
     }

@@ -17,8 +17,8 @@ use Rattle.bp_trail.specs.Script.{held_passes}
 use Rattle.bp_core.specs.CoreView.{CoreView, with_entry}
 
 -- a client's own list, newest first, and what cuts handed out of it, the bytes of a page, and the
--- room beyond all that the list owes: for entries, for passes held, and for copies of images; for
--- how many copies there is a place, and how many entries are kept
+-- room beyond all that the list owes: for entries, for passes held, and for copies of images; and
+-- for how many copies there is a place
 pub record BookValue : Type 0 where
   pub client : ℕ
   pub size : ℕ
@@ -28,7 +28,6 @@ pub record BookValue : Type 0 where
   pub passes : ℕ
   pub copies : ℕ
   pub places : ℕ
-  pub kept : ℕ
 
 -- the pass is among those held
 abbrev pub is_held : Pass → List Grant → Bool
@@ -97,14 +96,9 @@ open_tickets (e ∷ before) = tickets_given e.reply + (open_tickets before - tic
 abbrev pub owed : Trail → ℕ
 owed said = length (held_passes said) + 2 * open_tickets said
 
--- for one event more, a list that takes no memory for its entries need not grow: there is room for a
--- pass and places for two copies, and the entries can be counted
-abbrev pub NeedNotGrow : (passes places kept : ℕ) → Trail → Type 0
-NeedNotGrow passes places kept said =
-    (1 ≤ passes) × (2 ≤ places) × (kept + (owed said + 4) < 2 ^ 64)
-
 -- the passes held are those that the list leaves out, newest first, and there is room for what is
--- owed: an unfix for each of them; for each open ticket an end, an unfix and a copy of an image
+-- owed: an unfix for each of them; for each open ticket an end, an unfix and a copy of an image. No
+-- more entries are kept than the list has
 pub record KeepsRoom (client : ℕ) (said : Trail) (held : List Grant)
     (tickets kept copies for_said for_held : ℕ) : Type 0 where
   pub held_are : held ≡ passes_out said
@@ -113,6 +107,7 @@ pub record KeepsRoom (client : ℕ) (said : Trail) (held : List Grant)
   pub entries_fit : kept + (length held + 2 * tickets) ≤ for_said
   pub passes_fit : tickets ≤ for_held
   pub copies_fit : tickets ≤ copies
+  pub counted : kept ≤ length said
 
 -- no pass or ticket is given back by the call, or given by the reply
 abbrev pub plain_call : Call → Bool

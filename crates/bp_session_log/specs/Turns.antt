@@ -87,6 +87,16 @@ AskFixOutcome client page (Ok (fixing.WriteFirst ticket)) said after =
 AskFixOutcome client page (Err why) said after =
     (fix_refuses why ≡ true) × (after ≡ and_told client (Fix page) (refusal_reply why) said)
 
+-- how much it takes of the room for passes, and of the places for copies of images
+abbrev pub passes_taken : Result Fixing Refusal → ℕ
+passes_taken (Ok how) = 1
+passes_taken (Err why) = 0
+
+abbrev pub places_taken : Result Fixing Refusal → ℕ
+places_taken (Ok (fixing.Hit pass)) = 0
+places_taken (Ok _) = 1
+places_taken (Err why) = 0
+
 -- one flush event
 abbrev pub AskFlushOutcome : ℕ → ℕ → Result Flushing Refusal → Trail → Trail → Type 0
 AskFlushOutcome client page (Ok flushing.Clean) said after =
@@ -98,6 +108,11 @@ AskFlushOutcome client page (Ok (flushing.WriteFirst ticket)) said after =
     × (after ≡ by client (Flush page) (WriteFirst ticket.serial ticket.page ticket.image) ∷ said)
 AskFlushOutcome client page (Err why) said after =
     (flush_refuses why ≡ true) × (after ≡ and_told client (Flush page) (refusal_reply why) said)
+
+-- how much it takes of either
+abbrev pub tickets_taken : Result Flushing Refusal → ℕ
+tickets_taken (Ok (flushing.WriteFirst ticket)) = 1
+tickets_taken _ = 0
 
 -- one discard event, for which nobody looks at the mark
 abbrev pub DiscardTurn : ℕ → ℕ → Result Discarded Refusal → Trail → Trail → Type 0

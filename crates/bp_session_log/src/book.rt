@@ -8,7 +8,7 @@ ghost use Rattle.bp_trail.specs.Event.{grant, same_grant};
 ghost use Rattle.bp_trail.specs.Passes.{passes_out};
 ghost use Rattle.bp_trail.specs.Legal.{is_out};
 ghost use Rattle.bp_trail.specs.Script.{held_passes};
-ghost use Rattle.bp_session_log.specs.Books.{BookValue, SameBook, Tells, plain_call, plain_reply, OwesRead, OwesWrite, owed, NeedNotGrow};
+ghost use Rattle.bp_session_log.specs.Books.{BookValue, SameBook, Tells, plain_call, plain_reply, OwesRead, OwesWrite, owed};
 
 mod asking;
 mod ending;
@@ -61,7 +61,6 @@ impl<K: ListKeeper> Model for Book<K> {
       passes = b.held.room - b.tickets;
       copies = vec_len b.blanks - b.tickets;
       places = vec_capacity b.blanks - b.tickets;
-      kept = (K.kept b.said).len;
     } };
 
     ghost invariant = { λ b.
@@ -80,6 +79,7 @@ fn make_blanks<K: ListKeeper>(
     requires sized { All (λ b. K.fits b geometry.now.size) blanks.old.items }
     ensures sized { All (λ b. K.fits b geometry.now.size) blanks.new.items }
     ensures more { vec_len blanks.old ≤ vec_len blanks.new }
+    ensures places { vec_capacity blanks.old ≤ vec_capacity blanks.new }
     ensures enough { OnOk result (vec_len blanks.old + count ≤ vec_len blanks.new) }
     ensures memory { K.REFUSES ≡ false → vec_len blanks.old + count ≤ vec_capacity blanks.old →
         IsOk result }
@@ -107,13 +107,13 @@ fn copied<K: ListKeeper>(blanks: &mut Vec<K::Blank>, image: &Image) -> K::SpareI
     K::fill(blank, image)
 }
 
-/// The number of entries for which a list has to have room before one more event with a mark, where it holds so many
-/// passes and tickets. `None` where that overflows.
-fn entries_wanted(held: usize, tickets: usize) -> Option<usize>
-    ensures wanted { IfSome result (λ n. n ≡ held + 2 * tickets + 4) }
-    ensures counted { held + 2 * tickets + 4 < 2 ^ 64 → IsSome result }
+/// The number of entries for which a list has to have room before so many more, where it holds so many passes and
+/// tickets. `None` where that overflows.
+fn entries_wanted(held: usize, tickets: usize, more: usize) -> Option<usize>
+    ensures wanted { IfSome result (λ n. n ≡ held + 2 * tickets + more) }
+    ensures counted { held + 2 * tickets + more < 2 ^ 64 → IsSome result }
 {
-    tickets.checked_mul(2)?.checked_add(held)?.checked_add(4)
+    tickets.checked_mul(2)?.checked_add(held)?.checked_add(more)
 }
 
 impl<K: ListKeeper> Book<K> {
@@ -127,7 +127,6 @@ impl<K: ListKeeper> Book<K> {
         ensures passes { result.passes ≡ 0 }
         ensures copies { result.copies ≡ 0 }
         ensures places { result.places ≡ 0 }
-        ensures kept { result.kept ≡ 0 }
     {
         Book {
             alloc,
@@ -175,32 +174,35 @@ impl<K: ListKeeper> Book<K> {
         Some(PassNote::of(oldest.client, oldest.page, oldest.serial))
     }
 
-    /// Takes the memory for a mark, for one event, and for all that is owed then. No entry is added. Where memory is
-    /// refused, which is `OutOfMemory`, the list is as before, and some of the room may be there. A list that takes no
-    /// memory for its entries is refused none where nothing else of it has to grow.
-    pub fn reserve_for_event(&mut self) -> Result<(), Refusal>
+    /// Takes the memory for so many entries, passes and copies of images more, beside all that is owed. No entry is
+    /// added. Where memory is refused, which is `OutOfMemory`, the list is as before, and some of the room may be
+    /// there. A list that takes no memory for its entries is refused none for passes and copies that it has room for.
+    pub fn reserve(&mut self, more: u32, passes: u32, copies: u32) -> Result<(), Refusal>
         ensures same { SameBook self.old self.new }
-        ensures entries { OnOk result (4 ≤ self.new.entries) }
-        ensures passes { OnOk result (1 ≤ self.new.passes) }
-        ensures copies { OnOk result (2 ≤ self.new.copies) }
+        ensures keeps_passes { self.old.passes ≤ self.new.passes }
+        ensures keeps_places { self.old.places ≤ self.new.places }
+        ensures entries { OnOk result (more ≤ self.new.entries) }
+        ensures passes { OnOk result (passes ≤ self.new.passes) }
+        ensures copies { OnOk result (copies ≤ self.new.copies) }
+        ensures places { OnOk result (copies ≤ self.new.places) }
         ensures refused { OnErr result (result ≡ Err Refusal.OutOfMemory) }
-        ensures memory { K.REFUSES ≡ false →
-            NeedNotGrow self.old.passes self.old.places self.old.kept self.old.said → IsOk result }
+        ensures memory { K.REFUSES ≡ false → length self.old.said < 2 ^ 61
+            → passes ≤ self.old.passes → copies ≤ self.old.places → IsOk result }
     {
-        let Some(entries) = entries_wanted(self.held.len(), self.tickets) else {
+        let Some(entries) = entries_wanted(self.held.len(), self.tickets, more as usize) else {
             return Err(Refusal::OutOfMemory);
         };
-        let Some(passes) = self.tickets.checked_add(1) else {
+        let Some(room) = self.tickets.checked_add(passes as usize) else {
             return Err(Refusal::OutOfMemory);
         };
         self.said.reserve(entries)?;
-        self.held.reserve(passes)?;
+        self.held.reserve(room)?;
         let spare = self.blanks.len() - self.tickets;
         make_blanks::<K>(
             self.alloc,
             &self.geometry,
             &mut self.blanks,
-            2usize.saturating_sub(spare),
+            (copies as usize).saturating_sub(spare),
         )?;
         Ok(())
     }
@@ -214,6 +216,7 @@ impl<K: ListKeeper> Book<K> {
         ensures same { SameBook self.old self.new }
         ensures entries { self.new.entries ≡ self.old.entries }
         ensures passes { self.new.passes ≡ self.old.passes }
+        ensures places { self.new.places ≡ self.old.places }
         ensures copies { self.new.copies + 1 ≡ self.old.copies }
     {
         copied::<K>(&mut self.blanks, image)

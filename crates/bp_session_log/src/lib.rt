@@ -3,7 +3,7 @@
 //! A [`Book`] asks a core for one event at a time, and puts the entry that the core's trail gets into the client's list
 //! too. Device work that the event began is a [`PendingRead`] or a [`PendingWrite`], which only its end takes. The
 //! memory for an event, and for the ends and unfixes that are owed after it, is taken before the event, by
-//! `Book::reserve_for_event`; nothing else but a cut takes any for the list.
+//! `Book::reserve`; nothing else but a cut takes any for the list.
 //!
 //! A pass goes back by a ring: its client posts it, and [`drain_all`] gives the passes of all rings back to the core.
 //! [`Posted`] tells which rings have any. Nothing here knows of a lock: the core is one that the caller holds.

@@ -1,5 +1,6 @@
 -- What a session's sections show it, call after call.
-use Rattle.std.proofs.Common.{◌≡◌, refl, sym, ap, subst, ◌∙◌, ℕ, ◌≤◌, ◌<◌, ◌+◌, ◌^◌, ◌++◌, append_assoc, arith, Result, Ok, Err, inl, inr}
+use Rattle.std.proofs.Common.{◌≡◌, refl, sym, ap, subst, ◌∙◌, ℕ, ◌≤◌, ◌<◌, ◌+◌, ◌^◌, ◌++◌, append_assoc, length, arith, Result, Ok, Err, inl, inr}
+use Rattle.std.proofs.lemmas.Bool.{cases_lt}
 use Rattle.bp_page.specs.declared.refusals.Refusal.{Refusal}
 use Rattle.bp_page.specs.declared.refusals.Refusal.TheVariants as refusal
 use Rattle.bp_trail.specs.Clock.{clock}
@@ -7,12 +8,12 @@ use Rattle.bp_trail.specs.Legal.{Legal}
 use Rattle.bp_trail.specs.Parameters.{Parameters}
 use Rattle.bp_trail.specs.Trail.{Trail}
 use Rattle.bp_core.specs.CoreView.{CoreView, LacksRoomFor}
-use Rattle.bp_shared.specs.Sessions.{SessionValue}
+use Rattle.bp_shared.specs.Sessions.{SessionValue, IsRoomy}
 use Rattle.bp_shared.specs.Telling.{GoesOnFrom, IsListOf, Sees}
 use Rattle.bp_shared.specs.Keeping.{Idles, Acted, MayAct, Acts, FillsRoom}
 use Rattle.bp_shared.proofs.Telling.{Adds, listed_more, goes_on_more}
 
-seen_on : (start mid past : Trail) → GoesOnFrom start mid → GoesOnFrom mid past → GoesOnFrom start past
+pub seen_on : (start mid past : Trail) → GoesOnFrom start mid → GoesOnFrom mid past → GoesOnFrom start past
 seen_on start mid past a b = (b.0 ++ a.0, b.1 ∙ ap (λ es. b.0 ++ es) a.1 ∙ sym (append_assoc b.0 a.0 start))
 
 -- ---- one section
@@ -105,3 +106,11 @@ pub refused_more : (A B : Type 0) (c : Parameters) (start : Trail) (why : Refusa
 refused_more A B c start refusal.OutOfMemory old mid new m a = may_more c start old mid new m a
 refused_more A B c start refusal.UnknownPass old mid new m a = may_more c start old mid new m a
 refused_more A B c start _ old mid new m a = all_more c start old mid new m a
+
+-- ---- no memory was wanted for a list that is short
+pub too_long : (said after : Trail) → after ≡ said → (length said < 2 ^ 61 → ⊥) → 2 ^ 61 ≤ length after
+too_long said after same not = subst (λ (es : Trail). 2 ^ 61 ≤ length es) (sym same) (elim (cases_lt (length said) (2 ^ 61)) [ inl short ↦ absurd (not short) | inr long ↦ long ])
+
+-- a look at the trail leaves the room
+pub still_roomy : (c : Parameters) (start : Trail) (old new : SessionValue) → Sees c start old new → IsRoomy old → IsRoomy new
+still_roomy c start old new s was = (omega (arith, ap (λ (v : SessionValue). v.passes) s.same, was.0), omega (arith, ap (λ (v : SessionValue). v.places) s.same, was.1))

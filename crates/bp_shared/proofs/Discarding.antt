@@ -1,6 +1,5 @@
 -- A discard, turn by turn: each is one event, with no look at the mark.
-use Rattle.std.proofs.Common.{◌≡◌, ◌≢◌, ◌⊎◌, ◌<◌, refl, sym, ap, subst, ◌∙◌, ℕ, true, false, [], ◌∷◌, ◌++◌, length, arith, None, Result, Ok, Err, inl, inr}
-use Rattle.std.proofs.lemmas.List.{length-append}
+use Rattle.std.proofs.Common.{◌≡◌, ◌≢◌, refl, sym, ap, subst, ◌∙◌, ℕ, true, false, [], ◌∷◌, ◌++◌, None, Result, Ok, Err}
 use Rattle.std.specs.Prelude.{IsErrAnd}
 use Rattle.bp_page.specs.declared.refusals.Refusal.{Refusal}
 use Rattle.bp_page.specs.declared.refusals.Refusal.TheVariants as refusal
@@ -58,19 +57,3 @@ refused_said client page refusal.Pinned said mid after not w t =
 refused_said client page refusal.TrailFull said mid after not w t = record { piece = w.piece; grows = t.1 ∙ w.grows; of_row = no_room w.goes_on; gives = gives_none client page w.piece w.goes_on }
 refused_said client page refusal.OutOfMemory said mid after not w t = record { piece = w.piece; grows = t.1 ∙ w.grows; of_row = no_memory w.goes_on; gives = gives_none client page w.piece w.goes_on }
 refused_said client page _ said mid after not w t = absurd (let no : false ≡ true = t.0 in cc)
-
--- a page in flight is waited for by one entry more
-pub longer : (client page : ℕ) (said mid after : Trail) → DiscardWaits client page said mid → DiscardTurn client page (Err refusal.Busy) mid after → length said < length after
-longer client page said mid after w t =
-    let so_far = ap length w.grows in
-    let one = ap length t.1 in
-    omega (arith, so_far, one, length-append w.piece said)
-
--- where no memory is left nothing is added
-pub still_longer : (client page : ℕ) (why : Refusal) (said mid after : Trail) → length said < length mid → DiscardTurn client page (Err why) mid after → why ≡ refusal.OutOfMemory → length said < length after
-still_longer client page why said mid after long t is =
-    subst (λ (es : Trail). length said < length es) (sym (subst (λ w. DiscardTurn client page (Err w) mid after) is t).1) long
-
-pub either : (P Q R : Type 0) → P ⊎ Q → (P → R) → (Q → R) → R
-either P Q R (inl p) f g = f p
-either P Q R (inr q) f g = g q

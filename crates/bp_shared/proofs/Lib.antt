@@ -14,3 +14,4 @@ pub mod Holding
 pub mod Waiting
 pub mod Owning
 pub mod Reaching
+pub mod Writing

@@ -1,13 +1,15 @@
 -- Why the core refuses an event: for want of room, or of a clock that goes on.
-use Rattle.std.proofs.Common.{◌≡◌, ◌<◌, ◌+◌, ◌^◌, ap, subst, ℕ, true, false, List, Result, Ok, Err, inl, inr}
+use Rattle.std.proofs.Common.{◌≡◌, ◌<◌, ◌+◌, ◌^◌, sym, ◌∙◌, ap, subst, ℕ, true, false, List, Result, Ok, Err, inl, inr}
 use Rattle.bp_page.specs.declared.refusals.Refusal.{Refusal}
 use Rattle.bp_page.specs.declared.refusals.Refusal.TheVariants as refusal
-use Rattle.bp_trail.specs.declared.entries.Call.TheVariants.{Mark}
+use Rattle.bp_trail.specs.declared.entries.Call.{Call}
+use Rattle.bp_trail.specs.declared.entries.Call.TheVariants.{Mark, Fix, Flush}
+use Rattle.bp_trail.specs.Parameters.{Parameters}
 use Rattle.bp_trail.specs.declared.ends.Discarded.{Discarded}
 use Rattle.bp_trail.specs.Clock.{clock}
 use Rattle.bp_core.specs.declared.passes.Pass.{Pass}
 use Rattle.bp_core.specs.CoreView.{CoreView, HasRoomFor, LacksRoomFor}
-use Rattle.bp_core.specs.Outcomes.{StepOutcome, TickOutcome, PurgeOutcome, DiscardOutcome, ReadOutcome, ReadIntoOutcome, WriteOutcome}
+use Rattle.bp_core.specs.Outcomes.{TakesMemory, pass_is_out, StepOutcome, TickOutcome, PurgeOutcome, DiscardOutcome, ReadOutcome, ReadIntoOutcome, WriteOutcome}
 use Rattle.bp_session_log.specs.declared.pending.Fix.{Fix as Fixing}
 use Rattle.bp_session_log.specs.declared.pending.Flush.{Flush as Flushing}
 use Rattle.bp_page.specs.declared.refusals.PortFault.{PortFault}
@@ -18,6 +20,7 @@ use Rattle.bp_core.specs.declared.passes.WriteTicket.{WriteTicket}
 use Rattle.bp_core.specs.Work.{Reads, Writes}
 use Rattle.bp_session_log.specs.Turns.{EndReadOutcome, EndWriteOutcome, LoadOutcome, WriteOutOutcome}
 use Rattle.bp_session_log.specs.Causes.{Looks, AsksFix, AsksFlush}
+use Rattle.bp_shared.specs.Keeping.{WantsMemory}
 use Rattle.bp_shared.proofs.Stepping.{err}
 use Rattle.bp_shared.proofs.Working.{why-of}
 
@@ -60,6 +63,30 @@ fix_full core after client page r h is = subst (λ x. AsksFix client page x core
 pub flush_full : (core after : CoreView) (client page : ℕ) (r : Result Flushing Refusal) → AsksFlush client page r core after → r ≡ Err refusal.TrailFull → Full 2 core after
 flush_full core after client page r h is = subst (λ x. AsksFlush client page x core after) is h
 
+-- the core wanted memory for its reply, and got no entry
+wants : (call : Call) (c : Parameters) (core after : CoreView) (seen : Trail) → core.parameters ≡ c → TakesMemory call core → after ≡ core → seen ≡ after.past → WantsMemory call c seen
+wants call c core after seen are takes same is =
+    subst (WantsMemory call c) (sym (is ∙ ap (λ (v : CoreView). v.past) same)) (subst (λ p. WantsMemory call p core.past) are takes)
+
+pub fix_wants : (c : Parameters) (core after : CoreView) (client page : ℕ) (r : Result Fixing Refusal) (seen : Trail) → core.parameters ≡ c → AsksFix client page r core after → (r ≡ Err refusal.OutOfMemory → TakesMemory (Fix page) core) → seen ≡ after.past
+    → r ≡ Err refusal.OutOfMemory → WantsMemory (Fix page) c seen
+fix_wants c core after client page r seen are h takes is refused = wants (Fix page) c core after seen are (takes refused) (subst (λ x. AsksFix client page x core after) refused h).1 is
+
+pub flush_wants : (c : Parameters) (core after : CoreView) (client page : ℕ) (r : Result Flushing Refusal) (seen : Trail) → core.parameters ≡ c → AsksFlush client page r core after → (r ≡ Err refusal.OutOfMemory → TakesMemory (Flush page) core) → seen ≡ after.past
+    → r ≡ Err refusal.OutOfMemory → WantsMemory (Flush page) c seen
+flush_wants c core after client page r seen are h takes is refused = wants (Flush page) c core after seen are (takes refused) (subst (λ x. AsksFlush client page x core after) refused h).1 is
+
+-- an image that there is no memory for is that of a pass that is out
+pub read_wants : (core after : CoreView) (pass : Pass) (r : Result (List ℕ) Refusal) (seen : Trail) → ReadOutcome core pass r after → seen ≡ after.past → r ≡ Err refusal.OutOfMemory → pass_is_out pass seen ≡ true
+read_wants core after pass r seen h is refused =
+    let o = subst (λ x. ReadOutcome core pass x after) refused h in
+    subst (λ s. pass_is_out pass s ≡ true) (sym (is ∙ ap (λ (v : CoreView). v.past) o.2)) o.1
+
+-- a look that was refused wants no memory
+pub look_wants_none : (A : Type 0) (client seen : ℕ) (core after : CoreView) (why : Refusal) → Looks client seen core (err A why) after → err A why ≡ err A refusal.OutOfMemory → ⊥
+look_wants_none A client seen core after why (inl h) is = let no : false ≡ true = h.0 in cc
+look_wants_none A client seen core after why (inr h) is = subst (λ r. StepOutcome core client (Mark seen) r after) is h.1
+
 -- a look that was refused
 pub look_full : (A : Type 0) (client seen : ℕ) (core after : CoreView) (why : Refusal) → Looks client seen core (err A why) after → Full 1 core after
 look_full A client seen core after why (inl h) = absurd (let no : false ≡ true = h.0 in cc)
@@ -81,6 +108,21 @@ pub write_not_full : {A : Type 0} (writes : Writes A) (ticket : WriteTicket) (r 
 write_not_full writes ticket r said after port kept o is = go o.written (subst (λ x. EndWriteOutcome ticket o.written x said after) is o.ended)
   where
     go : (written : Result (Unit {0}) PortFault) → EndWriteOutcome ticket written (Err refusal.TrailFull) said after → ⊥
+    go (Ok done) h = h
+    go (Err fault) h = h
+
+-- nor memory
+pub load_wants_none : {A : Type 0} (reads : Reads A) (ticket : ReadTicket) (r : Result Pass Refusal) (said after : Trail) (port kept : A) → LoadOutcome reads ticket r said after port kept → r ≡ Err refusal.OutOfMemory → ⊥
+load_wants_none reads ticket r said after port kept o is = go o.read (subst (λ x. EndReadOutcome ticket o.read x said after) is o.ended)
+  where
+    go : (read : Result (List ℕ) PortFault) → EndReadOutcome ticket read (Err refusal.OutOfMemory) said after → ⊥
+    go (Ok image) h = h
+    go (Err fault) h = h
+
+pub write_wants_none : {A : Type 0} (writes : Writes A) (ticket : WriteTicket) (r : Result Ended Refusal) (said after : Trail) (port kept : A) → WriteOutOutcome writes ticket r said after port kept → r ≡ Err refusal.OutOfMemory → ⊥
+write_wants_none writes ticket r said after port kept o is = go o.written (subst (λ x. EndWriteOutcome ticket o.written x said after) is o.ended)
+  where
+    go : (written : Result (Unit {0}) PortFault) → EndWriteOutcome ticket written (Err refusal.OutOfMemory) said after → ⊥
     go (Ok done) h = h
     go (Err fault) h = h
 

@@ -1,12 +1,15 @@
 -- What a call of a session leaves as it was, and what its sections show it of the trail.
-use Rattle.std.specs.Prelude.{◌≡◌, ◌⊎◌, ℕ, ◌<◌, ◌≤◌, Result, Err, length}
+use Rattle.std.specs.Prelude.{◌≡◌, ◌⊎◌, ℕ, ◌<◌, ◌≤◌, true, Result, Err, length}
 use Rattle.bp_page.specs.declared.refusals.Refusal.{Refusal}
 use Rattle.bp_page.specs.declared.refusals.Refusal.TheVariants as refusal
+use Rattle.bp_trail.specs.declared.entries.Call.{Call}
 use Rattle.bp_trail.specs.Legal.{Legal}
+use Rattle.bp_trail.specs.PageMap.{reply_of}
 use Rattle.bp_trail.specs.Parameters.{Parameters}
 use Rattle.bp_trail.specs.Room.{free_keeping}
 use Rattle.bp_trail.specs.Trail.{Trail}
-use Rattle.bp_shared.specs.Sessions.{SessionValue}
+use Rattle.bp_core.specs.Outcomes.{takes_memory}
+use Rattle.bp_shared.specs.Sessions.{SessionValue, IsRoomy}
 use Rattle.bp_shared.specs.Telling.{GoesOnFrom, IsListOf}
 
 -- the session made no section, and its list got nothing
@@ -37,14 +40,19 @@ Acts c start (Err refusal.OutOfMemory) old new = MayAct c start old new
 Acts c start (Err refusal.UnknownPass) old new = MayAct c start old new
 Acts c start _ old new = Acted c start old new
 
--- the session is the same client's, nothing of its list was handed out, and its sections took back
--- what it had posted and showed it the trail
+-- the session is the same client's, nothing of its list was handed out, its sections took back what
+-- it had posted and showed it the trail, and a roomy one stays roomy
 pub record KeepsSession {A : Type 0} (c : Parameters) (start : Trail) (answer : Result A Refusal)
     (old new : SessionValue) : Type 0 where
   pub client : new.client ≡ old.client
   pub before : new.before ≡ old.before
   pub acts : Acts c start answer old new
+  pub roomy : IsRoomy old → IsRoomy new
 
 -- the entries of a trail, and what is owed after them, leave less room than for so many more
 abbrev pub FillsRoom : ℕ → Parameters → Trail → Type 0
 FillsRoom n c past = free_keeping c (length past) past < n
+
+-- the lawful reply to this call, after these entries, takes memory
+abbrev pub WantsMemory : Call → Parameters → Trail → Type 0
+WantsMemory call c past = takes_memory (reply_of c past call) ≡ true

@@ -4,5 +4,6 @@ pub mod Locked
 pub mod Taking
 pub mod Telling
 pub mod Keeping
+pub mod Writing
 pub mod Posting
 pub mod FlushAll

@@ -1,5 +1,5 @@
 -- What a session's call adds to the session's list, newest first, by what it answers.
-use Rattle.std.specs.Prelude.{◌≡◌, ◌≢◌, ◌⊎◌, ℕ, ◌+◌, ◌≤◌, zero, suc, true, false, List, [], ◌∷◌, ◌++◌, Option, Some, None, Result, Ok, Err, vec_len, vec_capacity}
+use Rattle.std.specs.Prelude.{◌≡◌, ◌≢◌, ◌⊎◌, ℕ, ◌+◌, ◌^◌, ◌≤◌, zero, suc, true, false, List, [], ◌∷◌, ◌++◌, Option, Some, None, Result, Ok, Err, length, vec_len, vec_capacity}
 use Rattle.bp_page.specs.declared.refusals.Refusal.{Refusal}
 use Rattle.bp_page.specs.Refusals.{number_of}
 use Rattle.bp_page.specs.declared.refusals.Refusal.TheVariants as refusal
@@ -14,7 +14,7 @@ use Rattle.bp_core.specs.Outcomes.{pass_is_out}
 use Rattle.bp_trail.specs.Pieces.{by, FixPiece, FlushPiece, DiscardPiece}
 use Rattle.bp_trail.specs.Pieces.Manner.{session}
 use Rattle.bp_trail.specs.Pieces.Outcome.{accepted, refused}
-use Rattle.bp_session_log.specs.Books.{owed, NeedNotGrow}
+use Rattle.bp_session_log.specs.Books.{owed}
 use Rattle.bp_trail.specs.declared.ends.Flushed.{Flushed}
 use Rattle.bp_trail.specs.declared.ends.Discarded.{Discarded}
 use Rattle.bp_core.specs.Added.{Gives, Ends}
@@ -24,7 +24,7 @@ use Rattle.bp_core.specs.Work.{Reads, Writes, WorksThrough}
 -- whose session it is, and its list: what cuts handed out, and all of it; the pool's trail as a call
 -- of the session saw it last; in how many places of its ring it knows no pass; for how many entries
 -- the list has room beyond all that it owes, for how many passes, and for how many copies of images;
--- for how many copies there is a place; and how many entries are kept
+-- and for how many copies there is a place
 pub record SessionValue : Type 0 where
   pub client : ℕ
   pub before : Trail
@@ -35,11 +35,18 @@ pub record SessionValue : Type 0 where
   pub passes : ℕ
   pub copies : ℕ
   pub places : ℕ
-  pub kept : ℕ
 
--- for one event more, the list need not grow where it takes no memory for its entries
+-- there is room for so many passes more than the session holds, and there are places for two copies
+-- of images: so much a fix or a read may want of what a silent session keeps for itself
+abbrev pub IsRoomyFor : ℕ → SessionValue → Type 0
+IsRoomyFor n s = (n ≤ s.passes) × (2 ≤ s.places)
+
 abbrev pub IsRoomy : SessionValue → Type 0
-IsRoomy s = NeedNotGrow s.passes s.places s.kept s.said
+IsRoomy s = IsRoomyFor 1 s
+
+-- the list has so many entries that it might not be counted any further
+abbrev pub IsLong : SessionValue → Type 0
+IsLong s = 2 ^ 61 ≤ length s.said
 
 -- a session that said nothing, with 32 free places in its ring
 abbrev pub new_session : ℕ → SessionValue
@@ -54,7 +61,6 @@ new_session client =
       passes = 0;
       copies = 0;
       places = 0;
-      kept = 0;
     }
 
 -- a new session for each client, in order
@@ -65,7 +71,7 @@ new_sessions (suc n) = new_sessions n ++ new_session n ∷ []
 -- what the list had was handed out, and all else goes on
 abbrev pub IsCut : SessionValue → SessionValue → Type 0
 IsCut old new =
-    new ≡ record old { before = old.said; room = new.room; copies = new.copies; kept = new.kept }
+    new ≡ record old { before = old.said; room = new.room; copies = new.copies }
 
 -- a list that was handed out has the memory that it had
 abbrev pub KeepsMemory : {A : Type 0} → SessionValue → Vec Entry A → Type 0
@@ -107,7 +113,7 @@ DiscardSaid client page (Ok how) said after =
 DiscardSaid client page (Err why) said after =
     Says (λ piece. DiscardPiece session client page piece (refused (number_of why))) None said after
 
--- a write with some page LSN, which the trail has under the lock
+-- a write with some page LSN, of which the relation may tell
 abbrev pub WithSomeLsn : {A : Type 0} → Writes A → Writes A
 WithSomeLsn writes port page image hidden written after =
     (lsn : ℕ) × writes port page image lsn written after

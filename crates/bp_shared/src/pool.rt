@@ -165,7 +165,7 @@ impl<N: PoolName, K: ListKeeper> SharedPool<N, K> {
     ghost use Rattle.bp_page.specs.declared.refusals.Refusal.TheVariants as Refusal;
     ghost use Rattle.bp_trail.specs.Clock.{durable};
     ghost use Rattle.bp_shared.specs.Locked.{Enters};
-    ghost use Rattle.bp_shared.specs.Sessions.{new_sessions, UnfixSaid};
+    ghost use Rattle.bp_shared.specs.Sessions.{new_sessions, IsRoomy, UnfixSaid};
     ghost use Rattle.bp_shared.specs.Telling.{GoesOnFrom};
 
     /// Makes a pool over a core, one session for each client, in order, and the taker of its trail. The reader is the
@@ -241,6 +241,7 @@ impl<N: PoolName, K: ListKeeper> SharedPool<N, K> {
         ensures client { session.new.client ≡ session.old.client }
         ensures before { session.new.before ≡ session.old.before }
         ensures seen { session.new.seen ≡ session.old.seen }
+        ensures roomy { IsRoomy session.old → IsRoomy session.new }
         ensures outcome { UnfixSaid session.old pass result session.new }
     {
         let client = session.client();
@@ -264,6 +265,7 @@ impl<N: PoolName, K: ListKeeper> SharedPool<N, K> {
         ensures client { session.new.client ≡ session.old.client }
         ensures before { session.new.before ≡ session.old.before }
         ensures seen { session.new.seen ≡ session.old.seen }
+        ensures roomy { IsRoomy session.old → IsRoomy session.new }
         ensures outcome { UnfixSaid session.old pass result session.new }
         ensures room { IfErr result (λ back. back.1 ≡ Refusal.UnknownPass) }
     {

@@ -60,7 +60,6 @@ impl<N: PoolName, K: ListKeeper> Model for Session<N, K> {
       passes = s.book.passes;
       copies = s.book.copies;
       places = s.book.places;
-      kept = s.book.kept;
     } };
 
     // The ring is the client's, and has 32 places; the passes posted are those of the list's own unfixes, in order, each
@@ -77,11 +76,12 @@ impl<N: PoolName, K: ListKeeper> Model for Session<N, K> {
 }
 
 impl<N: PoolName, K: ListKeeper> Session<N, K> {
-    ghost use Rattle.std.specs.Prelude.{◌≡◌, ◌<◌, [], All, length, slice_get, slice_index_or};
+    ghost use Rattle.std.specs.Prelude.{◌≡◌, ◌<◌, ℕ, false, [], All, OnOk, OnErr, length, slice_get, slice_index_or};
+    ghost use Rattle.bp_page.specs.declared.refusals.Refusal.TheVariants as Refusal;
     ghost use Rattle.bp_session_log.specs.Rings.{ring_of};
     ghost use Rattle.bp_shared.specs.Posting.{IsUnused};
     ghost use Rattle.bp_trail.specs.Script.{held_passes};
-    ghost use Rattle.bp_shared.specs.Sessions.{UnfixSaid};
+    ghost use Rattle.bp_shared.specs.Sessions.{IsLong, IsRoomy, IsRoomyFor, UnfixSaid};
     ghost use Rattle.bp_shared.specs.Telling.{IsLineOf};
 
     /// Makes a session with an empty list.
@@ -109,7 +109,6 @@ impl<N: PoolName, K: ListKeeper> Session<N, K> {
         ensures passes { result.passes ≡ 0 }
         ensures copies { result.copies ≡ 0 }
         ensures places { result.places ≡ 0 }
-        ensures kept { result.kept ≡ 0 }
     {
         Session {
             book: Book::new(alloc, geometry, client),
@@ -142,6 +141,27 @@ impl<N: PoolName, K: ListKeeper> Session<N, K> {
         self.book.oldest_held()
     }
 
+    /// Takes the memory that the list wants for so many passes more, and for an event with its images. With one pass
+    /// the session is then roomy, and each later call leaves it so. It takes no lock, and adds no entry.
+    ///
+    /// `OutOfMemory` where memory is refused, and then some of the room may be there; of a silent session only where
+    /// something has to grow, or its list has 2^61 entries or more.
+    pub fn reserve(&mut self, passes: u32) -> Result<(), Refusal>
+        ensures same { self.new ≡ record self.old {
+          room = self.new.room;
+          passes = self.new.passes;
+          copies = self.new.copies;
+          places = self.new.places;
+        } }
+        ensures roomy { OnOk result (IsRoomyFor passes self.new) }
+        ensures keeps { (n : ℕ) → IsRoomyFor n self.old → IsRoomyFor n self.new }
+        ensures refused { OnErr result (result ≡ Err Refusal.OutOfMemory) }
+        ensures memory { K.REFUSES ≡ false → IsRoomyFor passes self.old
+            → OnErr result (IsLong self.old) }
+    {
+        self.book.reserve(4, passes, 2)
+    }
+
     /// Ends the session and returns its book: its own list, and the passes that it holds. It takes no memory.
     pub fn into_book(self) -> Book<K>
         ensures client { result.client ≡ self.client }
@@ -165,6 +185,7 @@ impl<N: PoolName, K: ListKeeper> Session<N, K> {
         ensures client { self.new.client ≡ self.old.client }
         ensures before { self.new.before ≡ self.old.before }
         ensures seen { self.new.seen ≡ self.old.seen }
+        ensures roomy { IsRoomy self.old → IsRoomy self.new }
         ensures outcome { UnfixSaid self.old pass result self.new }
     {
         // The ring is looked at anew only for a pass that is held, since the refusal of another changes nothing.

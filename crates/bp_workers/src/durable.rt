@@ -2,7 +2,7 @@
 ghost use Rattle.std.specs.Prelude.{◌≡◌, ◌<◌, false, OnOk, IfErr};
 ghost use Rattle.bp_page.specs.declared.refusals.Refusal.TheVariants as Refusal;
 ghost use Rattle.bp_shared.specs.Keeping.{KeepsSession, MayAct};
-ghost use Rattle.bp_shared.specs.Sessions.{DoesWorkSaid};
+ghost use Rattle.bp_shared.specs.Sessions.{DoesWorkSaid, IsRoomy};
 ghost use Rattle.bp_workers.specs.Logs.{RaisesWithin};
 ghost use Rattle.bp_workers.specs.Tries.{GivesUp, GoesOn, Tries};
 
@@ -21,11 +21,11 @@ use std::time::Duration;
 /// It says by two relations of its own what a fix, and a tick, answers a client and adds to the client's list. What is
 /// promised by them of any pool can be kept only by these calls: so each answer of a waiting fix is one that was given.
 pub trait Asked<N: PoolName, K: ListKeeper> {
-    ghost use Rattle.std.specs.Prelude.{◌≡◌, ◌≢◌, ◌<◌};
+    ghost use Rattle.std.specs.Prelude.{◌≡◌, ◌≢◌, ◌<◌, OnOk};
     ghost use Rattle.bp_page.specs.declared.refusals.Refusal.TheVariants as Refusal;
     ghost use Rattle.bp_session_log.specs.Turns.{TickSaid};
     ghost use Rattle.bp_shared.specs.Keeping.{KeepsSession};
-    ghost use Rattle.bp_shared.specs.Sessions.{DoesWorkSaid};
+    ghost use Rattle.bp_shared.specs.Sessions.{DoesWorkSaid, IsRoomy};
     ghost use Rattle.bp_workers.specs.Tries.{Fixes, Ticks};
 
     // A fix of a page gives a client an answer, and leads from its list, as it was, to it, as it is.
@@ -49,6 +49,7 @@ pub trait Asked<N: PoolName, K: ListKeeper> {
         ensures keeps { KeepsSession N.parameters N.past result session.old session.new }
         ensures port { P.geometry_of port.new ≡ P.geometry_of port.old }
         ensures gives { fixes session.old.client page result session.old.said session.new.said }
+        ensures roomy { OnOk result (IsRoomy session.new) }
         ensures known { result ≢ Err Refusal.UnknownTicket }
         ensures work { DoesWorkSaid P.read_gives P.write_gives
             session.old.said session.new.said port.old port.new };
@@ -202,6 +203,7 @@ fn overcome<N: PoolName, K: ListKeeper, A: Asked<N, K>, L: DurableLog<N>, R: Wai
     ensures client { session.new.client ≡ session.old.client }
     ensures before { session.new.before ≡ session.old.before }
     ensures acts { MayAct N.parameters N.past session.old session.new }
+    ensures roomy { IsRoomy session.old → IsRoomy session.new }
     ensures lent { L.lent log.new ≡ L.lent log.old }
     ensures raises { RaisesWithin (L.durable_to log.old) (L.raised_to log.old)
         (L.durable_to log.new) (L.raised_to log.new) }
@@ -242,7 +244,7 @@ fn overcome<N: PoolName, K: ListKeeper, A: Asked<N, K>, L: DurableLog<N>, R: Wai
 /// Any other refusal is answered at once, as the fix gave it. `NoVictim` is answered only where the rounds are over,
 /// and `NeedLog` only there or where the log did not get durable so far. Where the tick is refused its refusal is
 /// answered, `TrailFull`, `ClockFull` or `OutOfMemory`: then the clock stands, and no page may leave. So each of these
-/// three is answered only as the pool's last call did.
+/// three is answered only as the pool's last call did. A session that was given a pass is roomy.
 pub fn fix_durably<N: PoolName, P: Port, K: ListKeeper, A: Asked<N, K>, L: DurableLog<N>, R: Wait>(
     rt: &R,
     pool: &A,
@@ -255,6 +257,7 @@ pub fn fix_durably<N: PoolName, P: Port, K: ListKeeper, A: Asked<N, K>, L: Durab
     ensures keeps { KeepsSession N.parameters N.past result
         client.old.session client.new.session }
     ensures port { P.geometry_of client.new.port ≡ P.geometry_of client.old.port }
+    ensures roomy { OnOk result (IsRoomy client.new.session) }
     ensures lent { L.lent log.new ≡ L.lent log.old }
     ensures raises { RaisesWithin (L.durable_to log.old) (L.raised_to log.old)
         (L.durable_to log.new) (L.raised_to log.new) }

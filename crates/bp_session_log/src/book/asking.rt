@@ -6,8 +6,9 @@ ghost use Rattle.bp_trail.specs.declared.entries.Reply.TheVariants as Reply;
 ghost use Rattle.bp_trail.specs.Clock.{durable};
 ghost use Rattle.bp_session_log.specs.Books.{SameOwner, Alike};
 ghost use Rattle.bp_session_log.specs.Turns.{LookOutcome, AskFixOutcome, AskFlushOutcome, DiscardTurn};
+ghost use Rattle.bp_session_log.specs.Turns.{passes_taken, places_taken, tickets_taken};
 ghost use Rattle.bp_session_log.specs.Turns.{TickSaid, PurgeSaid, ReadSaid, ReadIntoSaid, WriteSaid};
-ghost use Rattle.bp_core.specs.Outcomes.{DiscardOutcome, TickOutcome, PurgeOutcome};
+ghost use Rattle.bp_core.specs.Outcomes.{DiscardOutcome, TickOutcome, PurgeOutcome, TakesMemory};
 ghost use Rattle.bp_core.specs.Outcomes.{ReadOutcome, ReadIntoOutcome, WriteOutcome};
 ghost use Rattle.bp_session_log.specs.Causes.{Looks, AsksFix, AsksFlush};
 
@@ -40,6 +41,7 @@ impl<K: ListKeeper> Book<K> {
         ensures owner { SameOwner self.old self.new }
         ensures entries { self.old.entries ≤ self.new.entries + 1 }
         ensures passes { self.new.passes ≡ self.old.passes }
+        ensures places { self.new.places ≡ self.old.places }
         ensures copies { self.new.copies ≡ self.old.copies }
         ensures looks { Looks self.old.client reader.new.seen core.old result core.new }
         ensures outcome { LookOutcome self.old.client core.old reader.new.seen result
@@ -72,7 +74,11 @@ impl<K: ListKeeper> Book<K> {
         ensures before { core.new.before ≡ core.old.before }
         ensures owner { SameOwner self.old self.new }
         ensures asked { AsksFix self.old.client page result core.old core.new }
+        ensures memory { result ≡ Err Refusal.OutOfMemory
+            → TakesMemory (Call.Fix page) core.old }
         ensures outcome { AskFixOutcome self.old.client page result self.old.said self.new.said }
+        ensures passes { self.old.passes ≤ self.new.passes + passes_taken result }
+        ensures places { self.old.places ≤ self.new.places + places_taken result }
         ensures alike { Alike core.old self.old.said core.new self.new.said }
     {
         match core.fix(self.client, page) {
@@ -112,7 +118,11 @@ impl<K: ListKeeper> Book<K> {
         ensures before { core.new.before ≡ core.old.before }
         ensures owner { SameOwner self.old self.new }
         ensures asked { AsksFlush self.old.client page result core.old core.new }
+        ensures memory { result ≡ Err Refusal.OutOfMemory
+            → TakesMemory (Call.Flush page) core.old }
         ensures outcome { AskFlushOutcome self.old.client page result self.old.said self.new.said }
+        ensures passes { self.old.passes ≤ self.new.passes + tickets_taken result }
+        ensures places { self.old.places ≤ self.new.places + tickets_taken result }
         ensures alike { Alike core.old self.old.said core.new self.new.said }
     {
         match core.flush(self.client, page) {
@@ -153,6 +163,8 @@ impl<K: ListKeeper> Book<K> {
         ensures owner { SameOwner self.old self.new }
         ensures asked { DiscardOutcome core.old self.old.client page result core.new }
         ensures outcome { DiscardTurn self.old.client page result self.old.said self.new.said }
+        ensures passes { self.new.passes ≡ self.old.passes }
+        ensures places { self.new.places ≡ self.old.places }
         ensures alike { Alike core.old self.old.said core.new self.new.said }
     {
         match core.discard(self.client, page) {
@@ -178,6 +190,8 @@ impl<K: ListKeeper> Book<K> {
         ensures owner { SameOwner self.old self.new }
         ensures asked { TickOutcome core.old self.old.client n result core.new }
         ensures outcome { TickSaid self.old.client n result self.old.said self.new.said }
+        ensures passes { self.new.passes ≡ self.old.passes }
+        ensures places { self.new.places ≡ self.old.places }
         ensures alike { Alike core.old self.old.said core.new self.new.said }
     {
         core.tick(self.client, n)?;
@@ -197,6 +211,8 @@ impl<K: ListKeeper> Book<K> {
         ensures owner { SameOwner self.old self.new }
         ensures asked { PurgeOutcome core.old self.old.client result core.new }
         ensures outcome { PurgeSaid self.old.client result self.old.said self.new.said }
+        ensures passes { self.new.passes ≡ self.old.passes }
+        ensures places { self.new.places ≡ self.old.places }
         ensures alike { Alike core.old self.old.said core.new self.new.said }
     {
         let forgotten = core.purge(self.client)?;
@@ -219,6 +235,8 @@ impl<K: ListKeeper> Book<K> {
         ensures owner { SameOwner self.old self.new }
         ensures asked { ReadOutcome core.old pass.now result core.new }
         ensures outcome { ReadSaid self.old.client pass.now result self.old.said self.new.said }
+        ensures passes { self.new.passes ≡ self.old.passes }
+        ensures places { self.new.places ≡ self.old.places }
         ensures alike { Alike core.old self.old.said core.new self.new.said }
     {
         let image = core.read(pass)?;
@@ -249,6 +267,8 @@ impl<K: ListKeeper> Book<K> {
         ensures asked { ReadIntoOutcome core.old pass.now offset into.old result into.new core.new }
         ensures outcome { ReadIntoSaid self.old.client pass.now offset into.old result into.new
             self.old.said self.new.said }
+        ensures passes { self.new.passes ≡ self.old.passes }
+        ensures places { self.new.places ≡ self.old.places }
         ensures memory { K.REFUSES ≡ false → result ≢ Err Refusal.OutOfMemory }
         ensures alike { Alike core.old self.old.said core.new self.new.said }
     {
@@ -281,6 +301,8 @@ impl<K: ListKeeper> Book<K> {
         ensures asked { WriteOutcome core.old pass.now offset bytes.now lsn result core.new }
         ensures outcome { WriteSaid self.old.client pass.now offset bytes.now lsn result
             self.old.said self.new.said }
+        ensures passes { self.new.passes ≡ self.old.passes }
+        ensures places { self.new.places ≡ self.old.places }
         ensures memory { K.REFUSES ≡ false → result ≢ Err Refusal.OutOfMemory }
         ensures alike { Alike core.old self.old.said core.new self.new.said }
     {

@@ -1,5 +1,5 @@
 //! The ends of device work. None of these takes memory.
-ghost use Rattle.std.specs.Prelude.{◌≡◌, true, length, IfOk, Ok, Err};
+ghost use Rattle.std.specs.Prelude.{◌≡◌, ◌≢◌, ◌≤◌, ◌+◌, true, length, IfOk, Ok, Err};
 ghost use Rattle.bp_trail.specs.Clock.{durable};
 ghost use Rattle.bp_session_log.specs.Books.{SameOwner, OwesRead, OwesWrite, Alike};
 ghost use Rattle.bp_session_log.specs.Turns.{EndReadOutcome, EndWriteOutcome};
@@ -30,6 +30,9 @@ impl<K: ListKeeper> Book<K> {
         ensures owner { SameOwner self.old self.new }
         ensures ended { EndsRead core.old ticket (Ok image) result core.new }
         ensures outcome { EndReadOutcome ticket (Ok image) result self.old.said self.new.said }
+        ensures passes { self.old.passes ≤ self.new.passes }
+        ensures places { result ≢ Err Refusal.UnknownTicket
+            → self.old.places + 1 ≤ self.new.places }
         ensures alike { Alike core.old self.old.said core.new self.new.said }
     {
         let page = ticket.page();
@@ -74,6 +77,9 @@ impl<K: ListKeeper> Book<K> {
         ensures owner { SameOwner self.old self.new }
         ensures ended { EndsRead core.old ticket (Err fault) result core.new }
         ensures outcome { EndReadOutcome ticket (Err fault) result self.old.said self.new.said }
+        ensures passes { self.old.passes ≤ self.new.passes }
+        ensures places { result ≢ Err Refusal.UnknownTicket
+            → self.old.places + 1 ≤ self.new.places }
         ensures alike { Alike core.old self.old.said core.new self.new.said }
     {
         let page = ticket.page();
@@ -117,6 +123,9 @@ impl<K: ListKeeper> Book<K> {
         ensures owner { SameOwner self.old self.new }
         ensures ended { EndsRead core.old ticket read result core.new }
         ensures outcome { EndReadOutcome ticket read result self.old.said self.new.said }
+        ensures passes { self.old.passes ≤ self.new.passes }
+        ensures places { result ≢ Err Refusal.UnknownTicket
+            → self.old.places + 1 ≤ self.new.places }
         ensures alike { Alike core.old self.old.said core.new self.new.said }
     {
         let PendingRead { ticket } = ticket;
@@ -144,6 +153,10 @@ impl<K: ListKeeper> Book<K> {
         ensures owner { SameOwner self.old self.new }
         ensures ended { EndsWrite core.old ticket written result core.new }
         ensures outcome { EndWriteOutcome ticket written result self.old.said self.new.said }
+        ensures passes { result ≢ Err Refusal.UnknownTicket
+            → self.old.passes + 1 ≤ self.new.passes }
+        ensures places { result ≢ Err Refusal.UnknownTicket
+            → self.old.places + 1 ≤ self.new.places }
         ensures alike { Alike core.old self.old.said core.new self.new.said }
     {
         let PendingWrite { ticket } = ticket;

@@ -1,5 +1,5 @@
 //! The passes that a list holds, and those that go back.
-ghost use Rattle.std.specs.Prelude.{◌≡◌, ◌==◌, IsTrue, IsFalse, not, filter, reverse, vec_capacity};
+ghost use Rattle.std.specs.Prelude.{◌≡◌, ◌≤◌, ◌==◌, IsTrue, IsFalse, not, filter, reverse, vec_capacity};
 ghost use Rattle.bp_trail.specs.declared.entries.Call.TheVariants as Call;
 ghost use Rattle.bp_trail.specs.declared.entries.Reply.TheVariants as Reply;
 ghost use Rattle.bp_trail.specs.Event.{grant, same_grant};
@@ -28,6 +28,8 @@ impl<K: ListKeeper> Book<K> {
         ensures told { IsTrue result →
             Tells self.old (Call.Unfix note.serial note.page) Reply.Done self.new }
         ensures same { IsFalse result → self.new ≡ self.old }
+        ensures passes { self.old.passes ≤ self.new.passes }
+        ensures places { self.new.places ≡ self.old.places }
     {
         if !self
             .held

@@ -46,6 +46,7 @@ impl<K: ListKeeper> Book<K> {
         ensures told { Tells self.old call reply self.new }
         ensures entries { self.new.entries + 1 ≡ self.old.entries }
         ensures passes { self.new.passes ≡ self.old.passes }
+        ensures places { self.new.places ≡ self.old.places }
         ensures copies { self.new.copies ≡ self.old.copies }
     {
         self.said.record(self.client, call, reply);
@@ -58,6 +59,8 @@ impl<K: ListKeeper> Book<K> {
         requires copies { 0 < self.old.copies }
         ensures told { Tells self.old (Call.Read pass.now.serial pass.now.page)
             (Reply.Content image.now) self.new }
+        ensures passes { self.new.passes ≡ self.old.passes }
+        ensures places { self.new.places ≡ self.old.places }
     {
         let copy = self.copy_of(image);
         let by = self.grant(pass.page(), pass.serial());
@@ -77,6 +80,8 @@ impl<K: ListKeeper> Book<K> {
         requires spare { K.serves_bytes spare bytes.now }
         ensures told { Tells self.old
             (Call.Write pass.now.serial pass.now.page offset bytes.now lsn) Reply.Done self.new }
+        ensures passes { self.new.passes ≡ self.old.passes }
+        ensures places { self.new.places ≡ self.old.places }
     {
         let by = self.grant(pass.page(), pass.serial());
         self.said.record_write(by, offset, bytes, lsn, spare);
@@ -90,6 +95,8 @@ impl<K: ListKeeper> Book<K> {
         requires passes { 1 ≤ self.old.passes }
         ensures pass { result ≡ pass }
         ensures told { Tells self.old (Call.Fix page) (Reply.Hit pass.serial) self.new }
+        ensures passes { self.old.passes ≤ self.new.passes + 1 }
+        ensures places { self.new.places ≡ self.old.places }
     {
         let note = pass.note();
         let held = self.grant(page, note.serial());
@@ -108,6 +115,8 @@ impl<K: ListKeeper> Book<K> {
         ensures ticket { result ≡ ticket }
         ensures told { Tells self.old (Call.Fix ticket.page)
             (Reply.Load ticket.serial evicted) self.new }
+        ensures passes { self.old.passes ≤ self.new.passes + 1 }
+        ensures places { self.old.places ≤ self.new.places + 1 }
     {
         let reply = Reply::Load {
             ticket: ticket.serial(),
@@ -130,6 +139,8 @@ impl<K: ListKeeper> Book<K> {
         ensures ticket { result ≡ ticket }
         ensures told { Tells self.old call
             (Reply.WriteFirst ticket.serial ticket.page ticket.image) self.new }
+        ensures passes { self.old.passes ≤ self.new.passes + 1 }
+        ensures places { self.old.places ≤ self.new.places + 1 }
     {
         let copy = self.copy_of(ticket.image());
         let given = self.grant(ticket.page(), ticket.serial());
@@ -145,6 +156,8 @@ impl<K: ListKeeper> Book<K> {
         ensures owner { SameOwner self.old self.new }
         ensures said { self.new.said
             ≡ and_told self.old.client call (refusal_reply refusal.now) self.old.said }
+        ensures passes { self.new.passes ≡ self.old.passes }
+        ensures places { self.new.places ≡ self.old.places }
     {
         if let Some(reply) = reply_of(refusal) {
             self.tell(call, reply);
@@ -156,6 +169,8 @@ impl<K: ListKeeper> Book<K> {
         requires gives_none { plain_reply reply ≡ true }
         requires owes { OwesWriteEnd self.old.client ticket self.old.said }
         ensures told { Tells self.old (Call.WriteEnd ticket page good) reply self.new }
+        ensures passes { self.old.passes + 1 ≤ self.new.passes }
+        ensures places { self.old.places + 1 ≤ self.new.places }
     {
         let call = Call::WriteEnd { ticket, page, good };
         self.said.record(self.client, call, reply);

@@ -1,16 +1,19 @@
 //! The events of a session, each in a critical section whose rings are drained. The session's list gets the event too;
 //! a fix and a flush first look at the mark once. At the end both lines of the session are written, with its list and
 //! with the trail. None takes memory for the list: what an event wants there is taken before the lock.
-ghost use Rattle.std.specs.Prelude.{◌≡◌, ◌≢◌, ◌+◌, ◌%◌, ◌^◌, ◌<◌, ◌≤◌, false, length, IfOk};
+ghost use Rattle.std.specs.Prelude.{◌≡◌, ◌≢◌, ◌+◌, ◌%◌, ◌^◌, ◌<◌, ◌≤◌, false, true, length, IfOk};
 ghost use Rattle.bp_session_log.specs.Books.{OwesRead, OwesWrite};
 ghost use Rattle.bp_session_log.specs.Turns.{FixTurn, FlushTurn, DiscardTurn, EndReadOutcome, EndWriteOutcome};
+ghost use Rattle.bp_session_log.specs.Turns.{passes_taken, places_taken, tickets_taken};
 ghost use Rattle.bp_session_log.specs.Turns.{TickSaid, PurgeSaid, ReadSaid, ReadIntoSaid, WriteSaid};
 ghost use Rattle.bp_session_log.specs.Causes.{EndsRead, EndsWrite};
 ghost use Rattle.bp_core.specs.Outcomes.{DiscardOutcome, TickOutcome, PurgeOutcome, ReadOutcome};
 ghost use Rattle.bp_core.specs.Outcomes.{pass_is_out, ReadIntoOutcome, WriteOutcome};
 ghost use Rattle.bp_trail.specs.Clock.{clock};
-ghost use Rattle.bp_shared.specs.Keeping.{Acted, FillsRoom};
+ghost use Rattle.bp_trail.specs.declared.entries.Call.TheVariants as Call;
+ghost use Rattle.bp_shared.specs.Keeping.{Acted, FillsRoom, WantsMemory};
 ghost use Rattle.bp_shared.specs.Locked.{Enters, InStep, FixStep, FlushStep};
+ghost use Rattle.bp_shared.specs.Writing.{FixBegins, FlushBegins};
 
 use super::LockedPool;
 use crate::names::PoolName;
@@ -40,6 +43,11 @@ impl<N: PoolName, K: ListKeeper> LockedPool<N, K> {
         ensures acted { Acted N.parameters N.past session.old session.new }
         ensures ends { self.new.ends ≡ self.old.ends }
         ensures turn { FixTurn session.old.client page result session.old.said session.new.said }
+        ensures begins { FixBegins session.old.client session.old.seen result session.new.seen }
+        ensures passes { session.old.passes ≤ session.new.passes + passes_taken result }
+        ensures places { session.old.places ≤ session.new.places + places_taken result }
+        ensures memory { result ≡ Err Refusal.OutOfMemory
+            → WantsMemory (Call.Fix page) N.parameters session.new.seen }
         ensures room { result ≡ Err Refusal.TrailFull → FillsRoom 3 N.parameters session.new.seen }
         ensures in_step { InStep (FixStep session.old.client page self.new.seen result)
             self.old session.old.said self.new session.new.said }
@@ -79,6 +87,11 @@ impl<N: PoolName, K: ListKeeper> LockedPool<N, K> {
         ensures acted { Acted N.parameters N.past session.old session.new }
         ensures ends { self.new.ends ≡ self.old.ends }
         ensures turn { FlushTurn session.old.client page result session.old.said session.new.said }
+        ensures begins { FlushBegins session.old.client session.old.seen result session.new.seen }
+        ensures passes { session.old.passes ≤ session.new.passes + tickets_taken result }
+        ensures places { session.old.places ≤ session.new.places + tickets_taken result }
+        ensures memory { result ≡ Err Refusal.OutOfMemory
+            → WantsMemory (Call.Flush page) N.parameters session.new.seen }
         ensures room { result ≡ Err Refusal.TrailFull → FillsRoom 2 N.parameters session.new.seen }
         ensures in_step { InStep (FlushStep session.old.client page self.new.seen result)
             self.old session.old.said self.new session.new.said }
@@ -115,6 +128,8 @@ impl<N: PoolName, K: ListKeeper> LockedPool<N, K> {
         ensures before { session.new.before ≡ session.old.before }
         ensures acted { Acted N.parameters N.past session.old session.new }
         ensures outcome { EndReadOutcome ticket read result session.old.said session.new.said }
+        ensures passes { session.old.passes ≤ session.new.passes }
+        ensures places { session.old.places + 1 ≤ session.new.places }
         ensures ends { self.new.ends ≡ (self.old.ends + 1) % 2 ^ 64 }
         ensures known { result ≢ Err Refusal.UnknownTicket }
         ensures in_step { InStep (λ core after. EndsRead core ticket read result after)
@@ -143,6 +158,8 @@ impl<N: PoolName, K: ListKeeper> LockedPool<N, K> {
         ensures before { session.new.before ≡ session.old.before }
         ensures acted { Acted N.parameters N.past session.old session.new }
         ensures outcome { EndWriteOutcome ticket written result session.old.said session.new.said }
+        ensures passes { session.old.passes + 1 ≤ session.new.passes }
+        ensures places { session.old.places + 1 ≤ session.new.places }
         ensures ends { self.new.ends ≡ (self.old.ends + 1) % 2 ^ 64 }
         ensures known { result ≢ Err Refusal.UnknownTicket }
         ensures in_step { InStep (λ core after. EndsWrite core ticket written result after)
@@ -166,6 +183,8 @@ impl<N: PoolName, K: ListKeeper> LockedPool<N, K> {
         ensures acted { Acted N.parameters N.past session.old session.new }
         ensures ends { self.new.ends ≡ self.old.ends }
         ensures outcome { TickSaid session.old.client n result session.old.said session.new.said }
+        ensures passes { session.new.passes ≡ session.old.passes }
+        ensures places { session.new.places ≡ session.old.places }
         ensures memory { result ≢ Err Refusal.OutOfMemory }
         ensures room { result ≡ Err Refusal.TrailFull → FillsRoom 1 N.parameters session.new.seen }
         ensures clock { result ≡ Err Refusal.ClockFull
@@ -197,6 +216,8 @@ impl<N: PoolName, K: ListKeeper> LockedPool<N, K> {
         ensures ends { self.new.ends ≡ self.old.ends }
         ensures turn { DiscardTurn session.old.client page result
             session.old.said session.new.said }
+        ensures passes { session.new.passes ≡ session.old.passes }
+        ensures places { session.new.places ≡ session.old.places }
         ensures memory { result ≢ Err Refusal.OutOfMemory }
         ensures room { result ≡ Err Refusal.TrailFull → FillsRoom 1 N.parameters session.new.seen }
         ensures in_step { InStep
@@ -221,6 +242,8 @@ impl<N: PoolName, K: ListKeeper> LockedPool<N, K> {
         ensures acted { Acted N.parameters N.past session.old session.new }
         ensures ends { self.new.ends ≡ self.old.ends }
         ensures outcome { PurgeSaid session.old.client result session.old.said session.new.said }
+        ensures passes { session.new.passes ≡ session.old.passes }
+        ensures places { session.new.places ≡ session.old.places }
         ensures memory { result ≢ Err Refusal.OutOfMemory }
         ensures room { result ≡ Err Refusal.TrailFull → FillsRoom 1 N.parameters session.new.seen }
         ensures in_step { InStep (λ core after. PurgeOutcome core session.old.client result after)
@@ -246,6 +269,8 @@ impl<N: PoolName, K: ListKeeper> LockedPool<N, K> {
         requires room { 0 < session.old.room }
         requires copies { 0 < session.old.copies }
         ensures size { IfOk result (λ image. length image ≡ N.parameters.size) }
+        ensures memory { result ≡ Err Refusal.OutOfMemory
+            → pass_is_out pass.now session.new.seen ≡ true }
         ensures unknown { result ≡ Err Refusal.UnknownPass
             → pass_is_out pass.now session.old.said ≡ false }
         ensures client { session.new.client ≡ session.old.client }
@@ -254,6 +279,8 @@ impl<N: PoolName, K: ListKeeper> LockedPool<N, K> {
         ensures ends { self.new.ends ≡ self.old.ends }
         ensures outcome { ReadSaid session.old.client pass.now result
             session.old.said session.new.said }
+        ensures passes { session.new.passes ≡ session.old.passes }
+        ensures places { session.new.places ≡ session.old.places }
         ensures room { result ≡ Err Refusal.TrailFull → FillsRoom 1 N.parameters session.new.seen }
         ensures in_step { InStep (λ core after. ReadOutcome core pass.now result after)
             self.old session.old.said self.new session.new.said }
@@ -288,6 +315,8 @@ impl<N: PoolName, K: ListKeeper> LockedPool<N, K> {
         ensures ends { self.new.ends ≡ self.old.ends }
         ensures outcome { ReadIntoSaid session.old.client pass.now offset into.old result into.new
             session.old.said session.new.said }
+        ensures passes { session.new.passes ≡ session.old.passes }
+        ensures places { session.new.places ≡ session.old.places }
         ensures memory { K.REFUSES ≡ false → result ≢ Err Refusal.OutOfMemory }
         ensures room { result ≡ Err Refusal.TrailFull → FillsRoom 1 N.parameters session.new.seen }
         ensures in_step { InStep
@@ -328,6 +357,8 @@ impl<N: PoolName, K: ListKeeper> LockedPool<N, K> {
         ensures ends { self.new.ends ≡ self.old.ends }
         ensures outcome { WriteSaid session.old.client pass.now offset bytes.now lsn result
             session.old.said session.new.said }
+        ensures passes { session.new.passes ≡ session.old.passes }
+        ensures places { session.new.places ≡ session.old.places }
         ensures memory { K.REFUSES ≡ false → result ≢ Err Refusal.OutOfMemory }
         ensures room { result ≡ Err Refusal.TrailFull → FillsRoom 1 N.parameters session.new.seen }
         ensures in_step { InStep

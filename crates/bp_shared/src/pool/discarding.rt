@@ -9,9 +9,9 @@ use bp_page::{PageNo, Refusal};
 use std::sync::Wait;
 
 impl<N: PoolName, K: ListKeeper> SharedPool<N, K> {
-    ghost use Rattle.std.specs.Prelude.{◌≡◌, ◌≢◌, ◌<◌, false, length};
+    ghost use Rattle.std.specs.Prelude.{◌≡◌, ◌<◌, false};
     ghost use Rattle.bp_session_log.specs.Turns.{DiscardTurn};
-    ghost use Rattle.bp_shared.specs.Sessions.{DiscardSaid, IsRoomy};
+    ghost use Rattle.bp_shared.specs.Sessions.{DiscardSaid, IsLong};
     ghost use Rattle.bp_shared.specs.Keeping.{KeepsSession, FillsRoom};
 
     /// Takes the memory for one more event, and asks that a page leave its frame, in one critical section. `Busy` and
@@ -27,10 +27,10 @@ impl<N: PoolName, K: ListKeeper> SharedPool<N, K> {
         ensures turn { DiscardTurn session.old.client page result
             session.old.said session.new.said }
         ensures room { result ≡ Err Refusal.TrailFull → FillsRoom 1 N.parameters session.new.seen }
-        ensures memory { K.REFUSES ≡ false → IsRoomy session.old
-            → result ≢ Err Refusal.OutOfMemory }
+        ensures memory { K.REFUSES ≡ false → result ≡ Err Refusal.OutOfMemory
+            → IsLong session.new }
     {
-        session.book.reserve_for_event()?;
+        session.book.reserve(1, 0, 0)?;
         let mut state = self.lock_and_drain(rt, session);
         let answer = state.discard(session, page);
         self.unlock_or_wait(rt, state, &answer);
@@ -42,8 +42,8 @@ impl<N: PoolName, K: ListKeeper> SharedPool<N, K> {
     /// waits for the end of some device work and asks again. It looks at no mark.
     ///
     /// The session's list gets the events as the trail does. `Pinned`, where a client holds a pass of the page, is the
-    /// reply of the last one; `TrailFull` and `OutOfMemory` as from `fix`. A silent session answers `OutOfMemory` only where
-    /// what it keeps for itself has to grow, or after it met `Busy`.
+    /// reply of the last one; `TrailFull` and `OutOfMemory` as from `fix`. A silent session wants no memory for it, as
+    /// for `tick`.
     pub fn discard<R: Wait>(
         &self,
         rt: &R,
@@ -55,8 +55,8 @@ impl<N: PoolName, K: ListKeeper> SharedPool<N, K> {
         ensures outcome { DiscardSaid session.old.client page result
             session.old.said session.new.said }
         ensures room { result ≡ Err Refusal.TrailFull → FillsRoom 1 N.parameters session.new.seen }
-        ensures memory { K.REFUSES ≡ false → IsRoomy session.old → result ≡ Err Refusal.OutOfMemory
-            → length session.old.said < length session.new.said }
+        ensures memory { K.REFUSES ≡ false → result ≡ Err Refusal.OutOfMemory
+            → IsLong session.new }
     {
         for _ in rt.forever() {
             match self.ask_discard(rt, session, page) {

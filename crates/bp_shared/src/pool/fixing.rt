@@ -13,12 +13,14 @@ use bp_session_log::{Fix, PendingRead, PendingWrite};
 use std::sync::Wait;
 
 impl<N: PoolName, K: ListKeeper> SharedPool<N, K> {
-    ghost use Rattle.std.specs.Prelude.{◌≡◌, ◌≢◌, ◌<◌};
+    ghost use Rattle.std.specs.Prelude.{◌≡◌, ◌≢◌, ◌⊎◌, ◌+◌, ◌<◌, ◌≤◌, false};
+    ghost use Rattle.bp_trail.specs.declared.entries.Call.TheVariants as Call;
     ghost use Rattle.bp_session_log.specs.Books.{OwesRead, OwesWrite};
-    ghost use Rattle.bp_session_log.specs.Turns.{FixTurn, LoadOutcome, WriteOutOutcome};
+    ghost use Rattle.bp_session_log.specs.Turns.{FixTurn, LoadOutcome, WriteOutOutcome, passes_taken, places_taken};
     ghost use Rattle.bp_core.specs.Work.{MadeBlank};
-    ghost use Rattle.bp_shared.specs.Sessions.{DoesWorkSaid, FixSaid};
-    ghost use Rattle.bp_shared.specs.Keeping.{Acted, KeepsSession, FillsRoom};
+    ghost use Rattle.bp_shared.specs.Sessions.{DoesWorkSaid, FixSaid, IsLong, IsRoomy, IsRoomyFor};
+    ghost use Rattle.bp_shared.specs.Writing.{FixBegins, WithLsnSeen};
+    ghost use Rattle.bp_shared.specs.Keeping.{Acted, Acts, KeepsSession, FillsRoom, WantsMemory};
 
     /// Brings a page's image with no lock held, ends the read, and wakes all that wait.
     fn load<P: Port, S: Source<P>, R: Wait>(
@@ -36,6 +38,8 @@ impl<N: PoolName, K: ListKeeper> SharedPool<N, K> {
         ensures acted { Acted N.parameters N.past session.old session.new }
         ensures port { P.geometry_of port.new ≡ P.geometry_of port.old }
         ensures known { result ≢ Err Refusal.UnknownTicket }
+        ensures passes { session.old.passes ≤ session.new.passes }
+        ensures places { session.old.places + 1 ≤ session.new.places }
         ensures outcome { LoadOutcome S.gives ticket result session.old.said session.new.said
             port.old port.new }
     {
@@ -62,6 +66,8 @@ impl<N: PoolName, K: ListKeeper> SharedPool<N, K> {
         ensures acted { Acted N.parameters N.past session.old session.new }
         ensures port { P.geometry_of port.new ≡ P.geometry_of port.old }
         ensures known { result ≢ Err Refusal.UnknownTicket }
+        ensures passes { session.old.passes + 1 ≤ session.new.passes }
+        ensures places { session.old.places + 1 ≤ session.new.places }
         ensures outcome { WriteOutOutcome P.write_gives ticket result session.old.said
             session.new.said port.old port.new }
     {
@@ -84,11 +90,22 @@ impl<N: PoolName, K: ListKeeper> SharedPool<N, K> {
         page: PageNo,
     ) -> Result<Fix, Refusal>
         requires page_in { page < N.parameters.pages }
-        ensures keeps { KeepsSession N.parameters N.past result session.old session.new }
+        ensures client { session.new.client ≡ session.old.client }
+        ensures before { session.new.before ≡ session.old.before }
+        ensures acts { Acts N.parameters N.past result session.old session.new }
         ensures turn { FixTurn session.old.client page result session.old.said session.new.said }
+        ensures begins { FixBegins session.old.client session.old.seen result session.new.seen }
+        ensures passes { session.old.passes ≤ session.new.passes + passes_taken result }
+        ensures places { session.old.places ≤ session.new.places + places_taken result }
+        ensures had { result ≢ Err Refusal.OutOfMemory
+            → (2 ≤ session.new.passes + passes_taken result)
+            × (2 ≤ session.new.places + places_taken result) }
         ensures room { result ≡ Err Refusal.TrailFull → FillsRoom 3 N.parameters session.new.seen }
+        ensures memory { K.REFUSES ≡ false → IsRoomyFor 2 session.old
+            → result ≡ Err Refusal.OutOfMemory
+            → IsLong session.new ⊎ WantsMemory (Call.Fix page) N.parameters session.new.seen }
     {
-        session.book.reserve_for_event()?;
+        session.book.reserve(4, 2, 2)?;
         let mut state = self.lock_and_drain(rt, session);
         let answer = state.fix(&self.mark, session, page);
         self.unlock_or_wait(rt, state, &answer);
@@ -99,11 +116,15 @@ impl<N: PoolName, K: ListKeeper> SharedPool<N, K> {
     /// first, through the port and with no lock held; where another client has the page in flight, the call waits for
     /// the end of some device work and asks again. Before each fix of the core it looks at the mark once. The device
     /// does the work of the entries that the list gets, and nothing else: each read is of the page, each write of the
-    /// victim's, with its image.
+    /// victim's, with its image and the page LSN that the page had when its write-out began.
     ///
     /// The session's list gets the events as the trail does. `NoVictim`, `NeedLog`, `ReadFailed`, `WrongPage` and
     /// `WriteFailed` are the reply of the last one. `TrailFull` and `OutOfMemory` make no event, and those made before
     /// stand. The pool knows the ticket of each read and write-out that the call began, so it is never `UnknownTicket`.
+    ///
+    /// A silent session that has room for two passes is refused memory only where a pass or a ticket was to be given,
+    /// which takes some in the core. After every other answer the session is roomy: what it does until its next fix or
+    /// flush wants no memory for its list.
     pub fn fix<P: Port, R: Wait>(
         &self,
         rt: &R,
@@ -117,8 +138,12 @@ impl<N: PoolName, K: ListKeeper> SharedPool<N, K> {
         ensures port { P.geometry_of port.new ≡ P.geometry_of port.old }
         ensures outcome { FixSaid session.old.client page result session.old.said session.new.said }
         ensures room { result ≡ Err Refusal.TrailFull → FillsRoom 3 N.parameters session.new.seen }
+        ensures memory { K.REFUSES ≡ false → IsRoomyFor 2 session.old
+            → result ≡ Err Refusal.OutOfMemory
+            → IsLong session.new ⊎ WantsMemory (Call.Fix page) N.parameters session.new.seen }
+        ensures roomy { result ≢ Err Refusal.OutOfMemory → IsRoomy session.new }
         ensures known { result ≢ Err Refusal.UnknownTicket }
-        ensures work { DoesWorkSaid P.read_gives P.write_gives
+        ensures work { DoesWorkSaid P.read_gives (WithLsnSeen session.old session.new P.write_gives)
             session.old.said session.new.said port.old port.new }
     {
         self.fix_from(rt, session, port, &FromPort, page)
@@ -143,8 +168,13 @@ impl<N: PoolName, K: ListKeeper> SharedPool<N, K> {
         ensures port { P.geometry_of port.new ≡ P.geometry_of port.old }
         ensures outcome { FixSaid session.old.client page result session.old.said session.new.said }
         ensures room { result ≡ Err Refusal.TrailFull → FillsRoom 3 N.parameters session.new.seen }
+        ensures memory { K.REFUSES ≡ false → IsRoomyFor 2 session.old
+            → result ≡ Err Refusal.OutOfMemory
+            → IsLong session.new ⊎ WantsMemory (Call.Fix page) N.parameters session.new.seen }
+        ensures roomy { result ≢ Err Refusal.OutOfMemory → IsRoomy session.new }
         ensures known { result ≢ Err Refusal.UnknownTicket }
-        ensures work { DoesWorkSaid (λ at. MadeBlank (P.geometry_of at).size at) P.write_gives
+        ensures work { DoesWorkSaid (λ at. MadeBlank (P.geometry_of at).size at)
+            (WithLsnSeen session.old session.new P.write_gives)
             session.old.said session.new.said port.old port.new }
     {
         let zeros = Zeros { alloc: self.alloc };
@@ -166,8 +196,12 @@ impl<N: PoolName, K: ListKeeper> SharedPool<N, K> {
         ensures port { P.geometry_of port.new ≡ P.geometry_of port.old }
         ensures outcome { FixSaid session.old.client page result session.old.said session.new.said }
         ensures room { result ≡ Err Refusal.TrailFull → FillsRoom 3 N.parameters session.new.seen }
+        ensures memory { K.REFUSES ≡ false → IsRoomyFor 2 session.old
+            → result ≡ Err Refusal.OutOfMemory
+            → IsLong session.new ⊎ WantsMemory (Call.Fix page) N.parameters session.new.seen }
+        ensures roomy { result ≢ Err Refusal.OutOfMemory → IsRoomy session.new }
         ensures known { result ≢ Err Refusal.UnknownTicket }
-        ensures work { DoesWorkSaid S.gives P.write_gives
+        ensures work { DoesWorkSaid S.gives (WithLsnSeen session.old session.new P.write_gives)
             session.old.said session.new.said port.old port.new }
     {
         for _ in rt.forever() {

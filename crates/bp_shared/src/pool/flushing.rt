@@ -11,10 +11,12 @@ use bp_session_log::Flush;
 use std::sync::Wait;
 
 impl<N: PoolName, K: ListKeeper> SharedPool<N, K> {
-    ghost use Rattle.std.specs.Prelude.{◌≡◌, ◌≢◌, ◌<◌};
-    ghost use Rattle.bp_session_log.specs.Turns.{FlushTurn};
-    ghost use Rattle.bp_shared.specs.Sessions.{DoesWorkSaid, FlushSaid};
-    ghost use Rattle.bp_shared.specs.Keeping.{KeepsSession, FillsRoom};
+    ghost use Rattle.std.specs.Prelude.{◌≡◌, ◌≢◌, ◌⊎◌, ◌+◌, ◌<◌, ◌≤◌, false};
+    ghost use Rattle.bp_trail.specs.declared.entries.Call.TheVariants as Call;
+    ghost use Rattle.bp_session_log.specs.Turns.{FlushTurn, tickets_taken};
+    ghost use Rattle.bp_shared.specs.Sessions.{DoesWorkSaid, FlushSaid, IsLong, IsRoomy};
+    ghost use Rattle.bp_shared.specs.Writing.{FlushBegins, WithLsnSeen};
+    ghost use Rattle.bp_shared.specs.Keeping.{Acts, KeepsSession, FillsRoom, WantsMemory};
 
     /// Takes the memory for one more event, and asks that a page be written out in one critical section. `Busy` and
     /// `OutOfMemory` as from `ask_fix`.
@@ -25,11 +27,22 @@ impl<N: PoolName, K: ListKeeper> SharedPool<N, K> {
         page: PageNo,
     ) -> Result<Flush, Refusal>
         requires page_in { page < N.parameters.pages }
-        ensures keeps { KeepsSession N.parameters N.past result session.old session.new }
+        ensures client { session.new.client ≡ session.old.client }
+        ensures before { session.new.before ≡ session.old.before }
+        ensures acts { Acts N.parameters N.past result session.old session.new }
         ensures turn { FlushTurn session.old.client page result session.old.said session.new.said }
+        ensures begins { FlushBegins session.old.client session.old.seen result session.new.seen }
+        ensures passes { session.old.passes ≤ session.new.passes + tickets_taken result }
+        ensures places { session.old.places ≤ session.new.places + tickets_taken result }
+        ensures had { result ≢ Err Refusal.OutOfMemory
+            → (1 ≤ session.new.passes + tickets_taken result)
+            × (2 ≤ session.new.places + tickets_taken result) }
         ensures room { result ≡ Err Refusal.TrailFull → FillsRoom 2 N.parameters session.new.seen }
+        ensures memory { K.REFUSES ≡ false → IsRoomy session.old
+            → result ≡ Err Refusal.OutOfMemory
+            → IsLong session.new ⊎ WantsMemory (Call.Flush page) N.parameters session.new.seen }
     {
-        session.book.reserve_for_event()?;
+        session.book.reserve(4, 1, 2)?;
         let mut state = self.lock_and_drain(rt, session);
         let answer = state.flush(&self.mark, session, page);
         self.unlock_or_wait(rt, state, &answer);
@@ -41,7 +54,8 @@ impl<N: PoolName, K: ListKeeper> SharedPool<N, K> {
     /// looks at the mark once. The device does the work of the entries that the list gets, as in `fix`.
     ///
     /// The session's list gets the events as the trail does. `NeedLog` and `WriteFailed` are the reply of the last one;
-    /// `TrailFull` and `OutOfMemory` as from `fix`.
+    /// `TrailFull` and `OutOfMemory` as from `fix`; a roomy silent session is refused memory only where a ticket was to
+    /// be given.
     pub fn flush<P: Port, R: Wait>(
         &self,
         rt: &R,
@@ -55,8 +69,12 @@ impl<N: PoolName, K: ListKeeper> SharedPool<N, K> {
         ensures outcome { FlushSaid session.old.client page result
             session.old.said session.new.said }
         ensures room { result ≡ Err Refusal.TrailFull → FillsRoom 2 N.parameters session.new.seen }
+        ensures memory { K.REFUSES ≡ false → IsRoomy session.old
+            → result ≡ Err Refusal.OutOfMemory
+            → IsLong session.new ⊎ WantsMemory (Call.Flush page) N.parameters session.new.seen }
+        ensures roomy { result ≢ Err Refusal.OutOfMemory → IsRoomy session.new }
         ensures known { result ≢ Err Refusal.UnknownTicket }
-        ensures work { DoesWorkSaid P.read_gives P.write_gives
+        ensures work { DoesWorkSaid P.read_gives (WithLsnSeen session.old session.new P.write_gives)
             session.old.said session.new.said port.old port.new }
     {
         for _ in rt.forever() {

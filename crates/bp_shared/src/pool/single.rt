@@ -10,24 +10,25 @@ use bp_page::{Image, Lsn, Refusal};
 use std::sync::Wait;
 
 impl<N: PoolName, K: ListKeeper> SharedPool<N, K> {
-    ghost use Rattle.std.specs.Prelude.{◌≡◌, ◌≢◌, ◌+◌, ◌^◌, ◌<◌, ◌≤◌, false, length, IfOk};
+    ghost use Rattle.std.specs.Prelude.{◌≡◌, ◌≢◌, ◌⊎◌, ◌+◌, ◌^◌, ◌<◌, ◌≤◌, false, true, length, IfOk};
     ghost use Rattle.bp_session_log.specs.Turns.{TickSaid, PurgeSaid, ReadSaid, ReadIntoSaid, WriteSaid};
-    ghost use Rattle.bp_shared.specs.Sessions.{IsRoomy, LacksOwn};
+    ghost use Rattle.bp_core.specs.Outcomes.{pass_is_out};
+    ghost use Rattle.bp_shared.specs.Sessions.{IsLong, IsRoomy, LacksOwn};
     ghost use Rattle.bp_shared.specs.Keeping.{KeepsSession, FillsRoom};
     ghost use Rattle.bp_trail.specs.Clock.{clock};
 
-    /// Moves the clock on by `n` ticks. `OutOfMemory`, `TrailFull` and `ClockFull` change nothing. A silent session
-    /// answers `OutOfMemory` only where what it keeps for itself has to grow.
+    /// Moves the clock on by `n` ticks. `OutOfMemory`, `TrailFull` and `ClockFull` change nothing. A silent session wants
+    /// no memory for it: it answers `OutOfMemory` only where its list has 2^61 entries or more.
     pub fn tick<R: Wait>(&self, rt: &R, session: &mut Session<N, K>, n: u64) -> Result<(), Refusal>
         ensures keeps { KeepsSession N.parameters N.past result session.old session.new }
         ensures outcome { TickSaid session.old.client n result session.old.said session.new.said }
         ensures room { result ≡ Err Refusal.TrailFull → FillsRoom 1 N.parameters session.new.seen }
         ensures clock { result ≡ Err Refusal.ClockFull
             → 2 ^ 62 < clock session.new.seen + n }
-        ensures memory { K.REFUSES ≡ false → IsRoomy session.old
-            → result ≢ Err Refusal.OutOfMemory }
+        ensures memory { K.REFUSES ≡ false → result ≡ Err Refusal.OutOfMemory
+            → IsLong session.new }
     {
-        session.book.reserve_for_event()?;
+        session.book.reserve(1, 0, 0)?;
         let mut state = self.lock_and_drain(rt, session);
         state.tick(session, n)
     }
@@ -38,17 +39,18 @@ impl<N: PoolName, K: ListKeeper> SharedPool<N, K> {
         ensures keeps { KeepsSession N.parameters N.past result session.old session.new }
         ensures outcome { PurgeSaid session.old.client result session.old.said session.new.said }
         ensures room { result ≡ Err Refusal.TrailFull → FillsRoom 1 N.parameters session.new.seen }
-        ensures memory { K.REFUSES ≡ false → IsRoomy session.old
-            → result ≢ Err Refusal.OutOfMemory }
+        ensures memory { K.REFUSES ≡ false → result ≡ Err Refusal.OutOfMemory
+            → IsLong session.new }
     {
-        session.book.reserve_for_event()?;
+        session.book.reserve(1, 0, 0)?;
         let mut state = self.lock_and_drain(rt, session);
         state.purge(session)
     }
 
     /// Returns a copy of the image of a pass's page. `UnknownPass`, before all else, where the pass is another
     /// client's, and where the pool does not know it; `OutOfMemory`, which may come before the pool is asked, and
-    /// `TrailFull`. All change nothing.
+    /// `TrailFull`. All change nothing. The copy takes memory in every pool: of a roomy silent session `OutOfMemory`
+    /// comes only for a pass that is out.
     pub fn read<R: Wait>(
         &self,
         rt: &R,
@@ -62,18 +64,21 @@ impl<N: PoolName, K: ListKeeper> SharedPool<N, K> {
         ensures outcome { ReadSaid session.old.client pass.now result
             session.old.said session.new.said }
         ensures room { result ≡ Err Refusal.TrailFull → FillsRoom 1 N.parameters session.new.seen }
+        ensures memory { K.REFUSES ≡ false → IsRoomy session.old
+            → result ≡ Err Refusal.OutOfMemory
+            → IsLong session.new ⊎ pass_is_out pass.now session.new.seen ≡ true }
     {
         if pass.client() != session.client() {
             return Err(Refusal::UnknownPass);
         }
-        session.book.reserve_for_event()?;
+        session.book.reserve(1, 0, 1)?;
         let mut state = self.lock_and_drain(rt, session);
         state.read(session, pass)
     }
 
     /// Copies bytes of a pass's page, from the offset on, as many as `into` has. Refused as `read` is, which leaves the
-    /// bytes that were there. A silent pool copies them alone while it holds its lock, and takes no memory there: it
-    /// answers `OutOfMemory` only where what the session keeps for itself has to grow.
+    /// bytes that were there. A silent pool copies them alone while it holds its lock, and takes no memory there. A
+    /// silent session that is roomy answers `OutOfMemory` as from `tick`: so does each that was given a pass.
     pub fn read_into<R: Wait>(
         &self,
         rt: &R,
@@ -90,18 +95,19 @@ impl<N: PoolName, K: ListKeeper> SharedPool<N, K> {
             session.old.said session.new.said }
         ensures room { result ≡ Err Refusal.TrailFull → FillsRoom 1 N.parameters session.new.seen }
         ensures memory { K.REFUSES ≡ false → IsRoomy session.old
-            → result ≢ Err Refusal.OutOfMemory }
+            → result ≡ Err Refusal.OutOfMemory → IsLong session.new }
     {
         if pass.client() != session.client() {
             return Err(Refusal::UnknownPass);
         }
-        session.book.reserve_for_event()?;
+        session.book.reserve(1, 0, 1)?;
         let mut state = self.lock_and_drain(rt, session);
         state.read_into(session, pass, offset, into)
     }
 
     /// Writes bytes into a pass's page, from the offset on, and raises the page LSN to `lsn` if that is greater.
-    /// Refusals as from `read`, and of a silent pool as from `read_into`: it takes no memory for the bytes.
+    /// Refusals as from `read`; a silent session takes no memory for the bytes, and answers `OutOfMemory` as from `tick`.
+    /// So between a log record and its write nothing is refused for want of memory.
     pub fn write_from<R: Wait>(
         &self,
         rt: &R,
@@ -118,14 +124,14 @@ impl<N: PoolName, K: ListKeeper> SharedPool<N, K> {
         ensures outcome { WriteSaid session.old.client pass.now offset bytes.now lsn result
             session.old.said session.new.said }
         ensures room { result ≡ Err Refusal.TrailFull → FillsRoom 1 N.parameters session.new.seen }
-        ensures memory { K.REFUSES ≡ false → IsRoomy session.old
-            → result ≢ Err Refusal.OutOfMemory }
+        ensures memory { K.REFUSES ≡ false → result ≡ Err Refusal.OutOfMemory
+            → IsLong session.new }
     {
         if pass.client() != session.client() {
             return Err(Refusal::UnknownPass);
         }
         let spare = K::spare_bytes(self.alloc, bytes)?;
-        session.book.reserve_for_event()?;
+        session.book.reserve(1, 0, 0)?;
         let mut state = self.lock_and_drain(rt, session);
         state.write(session, pass, offset, bytes, lsn, spare)
     }

@@ -48,7 +48,8 @@ fn first_byte<N: PoolName, P: Port, K: ListKeeper, R: Wait>(
     Ok(image.bytes().first().copied().unwrap_or(0))
 }
 
-/// Writes the client's byte to its page and reads it, gives the page back in any case, and moves the clock on.
+/// Has the session take room, writes the client's byte to its page and reads it, gives the page back in any case, and
+/// moves the clock on.
 fn visit<N: PoolName, P: Port, K: ListKeeper, R: Wait>(
     rt: &R,
     alloc: Global,
@@ -57,6 +58,7 @@ fn visit<N: PoolName, P: Port, K: ListKeeper, R: Wait>(
 ) -> Result<u8, Refusal>
     ensures client { client.new.session.client ≡ client.old.session.client }
 {
+    client.session.reserve(1)?;
     let own = client.session.client();
     let note = fix(rt, pool, client, u64::from(own))?;
     let wrote = write(rt, alloc, pool, client, note, byte_of(own), 0);
@@ -161,8 +163,8 @@ fn run_visitors<K: Kind, R: Threads + Wait + Sync + Abort + AllocGlobal>(
 
 /// Asserts that each visitor read its own byte in the end, and holds no pass. At most one visit was refused, for want
 /// of memory of the pool, or of the port at the end of a read. A visit has six entries. A refused one adds none where
-/// its fix was refused, two where its read failed, three where the write or the read by its pass was refused, and four
-/// where the tick was.
+/// its room or its fix was refused, two where its read failed, three where the write or the read by its pass was
+/// refused, and four where the tick was.
 fn expect_visits<K: Kind>(rt: &impl Abort, run: &Run<MemPort, Visitor, K>) {
     assert_eq!(rt; run.left.len(), 2);
     let mut refused = None;

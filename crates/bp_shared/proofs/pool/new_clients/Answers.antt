@@ -45,7 +45,7 @@ loop-client-preserved g c =
     let more = c.line-line.ensures in
     let counted : length c.line-line.new.self.lists ≡ length c.loop-client.board.lists + 1 = ap length more.lists ∙ length-append c.loop-client.board.lists ([] ∷ []) in
     record {
-      sessions = sessions_more c.loop-client.client _ _ _ c.new-session.result i.sessions (search rules) c.new-session.ensures.client c.new-session.ensures.before c.new-session.ensures.said c.new-session.ensures.seen c.new-session.ensures.free c.new-session.ensures.room c.new-session.ensures.passes c.new-session.ensures.copies c.new-session.ensures.places c.new-session.ensures.kept (add-one c.loop-client.client);
+      sessions = sessions_more c.loop-client.client _ _ _ c.new-session.result i.sessions (search rules) c.new-session.ensures.client c.new-session.ensures.before c.new-session.ensures.said c.new-session.ensures.seen c.new-session.ensures.free c.new-session.ensures.room c.new-session.ensures.passes c.new-session.ensures.copies c.new-session.ensures.places (add-one c.loop-client.client);
       rings = ap (drop 1) (sym c.in-Some.ensures.items ∙ i.rings ∙ drop_more c.args.producers.items c.loop-client.client c.in-Some.producer (omega (arith, c.loop-client-test.true, c.requires.count)));
       board = more.name ∙ i.board;
       lines = omega (arith, counted, i.lines);

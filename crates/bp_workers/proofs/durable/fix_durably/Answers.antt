@@ -11,7 +11,7 @@ use Rattle.bp_workers.proofs.Working.{goes-on-work, gives-up-work}
 use Rattle.bp_workers.proofs.durable.fix_durably.Goals as goal
 
 pub loop-round-init : goal.loop-round-init
-loop-round-init g c = record { client = refl; before = refl; acts = idle _ _ _; port = refl; lent = refl; raises = raises-none _ _; leads = leads-none _ _ _ _ _ _ _ _; work = none-yet _ _ _ _ }
+loop-round-init g c = record { client = refl; before = refl; acts = idle _ _ _; roomy = λ was. was; port = refl; lent = refl; raises = raises-none _ _; leads = leads-none _ _ _ _ _ _ _ _; work = none-yet _ _ _ _ }
 
 pub loop-round-preserved : goal.loop-round-preserved
 loop-round-preserved g c =
@@ -22,6 +22,7 @@ loop-round-preserved g c =
       client = c.overcome.ensures.client ∙ c.ask_fix.ensures.keeps.client ∙ i.client;
       before = c.overcome.ensures.before ∙ c.ask_fix.ensures.keeps.before ∙ i.before;
       acts = may_more _ _ _ _ _ (may_more _ _ _ _ _ i.acts (may_act _ _ _ _ _ c.ask_fix.ensures.keeps.acts)) c.overcome.ensures.acts;
+      roomy = λ was. c.overcome.ensures.roomy (c.ask_fix.ensures.keeps.roomy (i.roomy was));
       port = c.ask_fix.ensures.port ∙ i.port;
       lent = c.overcome.ensures.lent ∙ i.lent;
       raises = raises-then _ _ _ _ _ _ i.raises c.overcome.ensures.raises;
@@ -33,7 +34,8 @@ pub returns-in-Ok : goal.returns-in-Ok
 returns-in-Ok g c =
     let i = c.loop-round.invariant in
     record {
-      keeps = record { client = c.ask_fix.ensures.keeps.client ∙ i.client; before = c.ask_fix.ensures.keeps.before ∙ i.before; acts = all_more _ _ _ _ _ i.acts c.in-Ok.ensures.keeps.acts };
+      keeps = record { client = c.ask_fix.ensures.keeps.client ∙ i.client; before = c.ask_fix.ensures.keeps.before ∙ i.before; acts = all_more _ _ _ _ _ i.acts c.in-Ok.ensures.keeps.acts; roomy = λ was. c.ask_fix.ensures.keeps.roomy (i.roomy was) };
+      roomy = c.in-Ok.ensures.roomy;
       port = c.ask_fix.ensures.port ∙ i.port;
       lent = i.lent;
       raises = i.raises;
@@ -56,7 +58,9 @@ returns-in_err-overcome-in-Err g c =
         acts = rw (is.1 ∙ ap Err is.2)
             (acts_more {A = Pass} _ _ (Err answer) c.args.client.now.session c.loop-round.client.session c.overcome.new.session i.acts
             (gives-up-acts _ _ c.loop-round.client.session c.ask_fix.new.session c.overcome.new.session g.A.Asked.ticks client steps _ c.in-Err.why _ answer _ _ ends c.in-Err.ensures.keeps.acts c.overcome.ensures.acts));
+        roomy = λ was. c.overcome.ensures.roomy (c.ask_fix.ensures.keeps.roomy (i.roomy was));
       };
+      roomy = rw (is.1 ∙ ap Err is.2) tt;
       port = c.ask_fix.ensures.port ∙ i.port;
       lent = c.overcome.ensures.lent ∙ i.lent;
       raises = raises-then _ _ _ _ _ _ i.raises c.overcome.ensures.raises;
@@ -69,7 +73,8 @@ pub returns : goal.returns
 returns g c =
     let i = c.loop-round.invariant in
     record {
-      keeps = record { client = c.ask_fix-2.ensures.keeps.client ∙ i.client; before = c.ask_fix-2.ensures.keeps.before ∙ i.before; acts = acts_more _ _ _ _ _ _ i.acts c.ask_fix-2.ensures.keeps.acts };
+      keeps = record { client = c.ask_fix-2.ensures.keeps.client ∙ i.client; before = c.ask_fix-2.ensures.keeps.before ∙ i.before; acts = acts_more _ _ _ _ _ _ i.acts c.ask_fix-2.ensures.keeps.acts; roomy = λ was. c.ask_fix-2.ensures.keeps.roomy (i.roomy was) };
+      roomy = c.ask_fix-2.ensures.roomy;
       port = c.ask_fix-2.ensures.port ∙ i.port;
       lent = i.lent;
       raises = i.raises;

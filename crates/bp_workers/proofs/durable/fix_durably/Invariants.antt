@@ -1,7 +1,7 @@
 -- The tries so far.
 use Rattle.std.proofs.Common.{◌≡◌}
 use Rattle.bp_shared.specs.Keeping.{MayAct}
-use Rattle.bp_shared.specs.Sessions.{DoesWorkSaid}
+use Rattle.bp_shared.specs.Sessions.{DoesWorkSaid, IsRoomy}
 use Rattle.bp_workers.specs.Logs.{RaisesWithin}
 use Rattle.bp_workers.proofs.Trying.{LeadsTo}
 use Rattle.bp_workers.proofs.durable.fix_durably.Given as goal
@@ -14,6 +14,7 @@ invariant-loop-round g l =
       client : l.client.session.client ≡ l.initial.client.session.client;
       before : l.client.session.before ≡ l.initial.client.session.before;
       acts : MayAct g.N.PoolName.parameters g.N.PoolName.past l.initial.client.session l.client.session;
+      roomy : IsRoomy l.initial.client.session → IsRoomy l.client.session;
       port : g.P.Port.geometry_of l.client.port ≡ g.P.Port.geometry_of l.initial.client.port;
       lent : g.L.DurableLog.lent l.log ≡ g.L.DurableLog.lent l.initial.log;
       raises : RaisesWithin (durable l.initial.log) (raised l.initial.log) (durable l.log) (raised l.log);

@@ -20,6 +20,7 @@ returns-in_default g c =
       client = refl;
       before = refl;
       acts = idle _ _ _;
+      roomy = λ was. was;
       lent = refl;
       raises = raises-none _ _;
       goes_on = tt;

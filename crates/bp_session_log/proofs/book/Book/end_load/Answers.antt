@@ -34,6 +34,7 @@ invariant_of-self-in-Err-Unknown g c =
         entries_fit = r.entries_fit;
         passes_fit = r.passes_fit;
         copies_fit = search rules;
+        counted = r.counted;
       },
       subst (λ bs. All (λ b. g.K.ListKeeper.fits b size) bs) (sym c.push_reserved.ensures.items) (All-append (λ b. g.K.ListKeeper.fits b size) blanks (c.clear.result ∷ []) rest (search rules)),
     )

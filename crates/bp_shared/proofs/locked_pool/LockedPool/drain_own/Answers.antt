@@ -82,7 +82,6 @@ returns g c =
         passes = s.book.passes;
         copies = s.book.copies;
         places = s.book.places;
-        kept = s.book.kept;
       };
       free = omega (arith, places, seen.producer.2, looked.looked.2);
       legal = c.keeps_the_rules.ensures.legal;

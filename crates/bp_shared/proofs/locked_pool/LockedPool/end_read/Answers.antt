@@ -23,13 +23,16 @@ pub returns : goal.returns
 returns g c =
     let done = c.end_read-ended.ensures in
     let adds = adds_one c.session.inside.book.client _ _ _ _ done.alike (end_read_one _ _ _ _ _ _ (rw (← c.session.view_is) at c.requires.owes) done.outcome) in
+    let known = read-not-unknown c.self.inside.core c.end_read-ended.new.core c.args.ticket _ _ done.ended
+    (read-known _ _ _ _ _ _ (rw (← c.self.view_is) at c.requires.entered.legal) (rw (← c.self.view_is, ← c.session.view_is) at c.requires.entered.list_is) (rw (← c.session.view_is) at c.requires.owes)) in
     rw (← c.self.view_is, ← c.session.view_is) (record {
       client = done.owner.client;
       before = done.owner.before;
       acted = shows _ _ _ _ c.self.inside.core c.end_read-ended.new.core c.self.invariant.0.parameters_are done.parameters c.keeps_the_rules.ensures.legal (rw (← c.self.view_is, ← c.session.view_is) at c.requires.entered.list_is) adds done.owner.client (rw (← c.session.view_is) at c.requires.entered.emptied) refl (line_earlier _ _ _ _ _ _ _ c.self.invariant.5 c.write-2.ensures) c.write-2.ensures.list_is;
       ends = refl;
-      known = read-not-unknown c.self.inside.core c.end_read-ended.new.core c.args.ticket _ _ done.ended
-          (read-known _ _ _ _ _ _ (rw (← c.self.view_is) at c.requires.entered.legal) (rw (← c.self.view_is, ← c.session.view_is) at c.requires.entered.list_is) (rw (← c.session.view_is) at c.requires.owes));
+      known = known;
+      passes = done.passes;
+      places = done.places known;
       outcome = done.outcome;
       in_step = step_one _ _ _ _ _ refl done.ended done.alike;
     })

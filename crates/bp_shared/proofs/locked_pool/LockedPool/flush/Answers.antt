@@ -3,8 +3,9 @@ use Rattle.std.proofs.Common.{rules, refl, inl, inr, ◌∙◌, subst, arith}
 use Rattle.bp_session_log.specs.declared.pending.Flush.{Flush as Flushing}
 use Rattle.bp_shared.proofs.Stepping.{step_one, step_two, look_refused, looked, marks_once, not_refused_look}
 use Rattle.bp_shared.proofs.Acting.{shows, fills}
-use Rattle.bp_shared.proofs.Refusing.{look_full, flush_full}
-use Rattle.bp_shared.proofs.Telling.{OneMore, adds_one, adds_both, look_one, ask_flush_one, earlier_adds, earlier_seen, line_earlier, shown_more}
+use Rattle.bp_shared.proofs.Refusing.{look_full, look_wants_none, flush_full, flush_wants, same_why}
+use Rattle.bp_shared.proofs.Telling.{OneMore, adds_one, adds_both, look_one, ask_flush_one, earlier_adds, earlier_seen, goes_on_more, line_earlier, shown_more}
+use Rattle.bp_shared.proofs.Writing.{flush_begins}
 use Rattle.bp_shared.proofs.Turning.{flush_not_looked}
 use Rattle.bp_shared.proofs.Posting.{posted_adds}
 use Rattle.bp_shared.proofs.locked_pool.LockedPool.flush.Goals as goal
@@ -44,6 +45,10 @@ returns-in-Err g c =
       before = owner.before;
       acted = shows _ _ _ _ c.self.inside.core c.look.new.core c.self.invariant.0.parameters_are c.look.ensures.parameters c.keeps_the_rules.ensures.legal (rw (← c.self.view_is, ← c.session.view_is) at c.requires.entered.list_is) adds owner.client (rw (← c.session.view_is) at c.requires.entered.emptied) refl (line_earlier _ _ _ _ _ _ _ c.self.invariant.5 c.write-in-Err.ensures) c.write-in-Err.ensures.list_is;
       ends = refl;
+      passes = omega (arith, c.look.ensures.passes);
+      places = omega (arith, c.look.ensures.places);
+      memory = λ is. absurd (look_wants_none (Unit {0}) c.session.inside.book.client _ _ _ _ looks (same_why is));
+      begins = tt;
       turn = flush_not_looked (Unit {0}) _ _ _ c.self.inside.core _ _ _ c.in-Err.ensures.outcome;
       room = λ is. fills 1 2 _ c.self.inside.core c.look.new.core _ c.self.invariant.0.parameters_are (omega arith) no.0 no.1 c.write-in-Err.ensures.list_is;
       in_step = step_one _ _ _ _ _ refl (inl (refl, look_refused (Unit {0}) Flushing c.session.inside.book.client _ _ _ _ looks)) c.look.ensures.alike;
@@ -63,6 +68,10 @@ returns g c =
       before = done.owner.before ∙ owner.before;
       acted = shows _ _ _ _ c.self.inside.core c.ask_flush-answer.new.core c.self.invariant.0.parameters_are (done.parameters ∙ c.look.ensures.parameters) c.keeps_the_rules-2.ensures.legal (rw (← c.self.view_is, ← c.session.view_is) at c.requires.entered.list_is) adds (done.owner.client ∙ owner.client) (rw (← c.session.view_is) at c.requires.entered.emptied) refl (line_earlier _ _ _ _ _ _ _ c.self.invariant.5 c.write-3.ensures) c.write-3.ensures.list_is;
       ends = refl;
+      passes = omega (arith, c.look.ensures.passes, done.passes);
+      places = omega (arith, c.look.ensures.places, done.places);
+      memory = flush_wants _ c.look.new.core c.ask_flush-answer.new.core _ _ _ _ (c.look.ensures.parameters ∙ c.self.invariant.0.parameters_are) done.asked done.memory c.write-3.ensures.list_is;
+      begins = flush_begins _ _ _ _ c.look.new.core c.ask_flush-answer.new.core _ (goes_on_more _ _ _ first.piece (line_earlier _ _ _ _ _ _ _ c.self.invariant.5 c.write-3.ensures) first.goes_on) (rw owner.client at done.asked) c.write-3.ensures.list_is;
       turn = record { marked = c.look.new.self.said; marks = marks_once _ _ c.self.inside.core _ _ _ _ ok.1 c.look.ensures.outcome; asks = rw owner.client at done.outcome };
       room = λ is. let no = flush_full _ _ _ _ _ done.asked is in fills 2 2 _ c.look.new.core c.ask_flush-answer.new.core _ (c.look.ensures.parameters ∙ c.self.invariant.0.parameters_are) (omega arith) no.0 no.1 c.write-3.ensures.list_is;
       in_step = step_two _ _ _ _ _ _ _ refl (inr (_, looks, rw owner.client at done.asked)) c.look.ensures.alike done.alike;

@@ -2,7 +2,7 @@
 use Rattle.std.proofs.Common.{rules, refl, arith}
 use Rattle.bp_shared.proofs.Stepping.{step_one}
 use Rattle.bp_shared.proofs.Acting.{shows, fills}
-use Rattle.bp_shared.proofs.Refusing.{read_full}
+use Rattle.bp_shared.proofs.Refusing.{read_full, read_wants}
 use Rattle.bp_shared.proofs.Telling.{adds_one, read_one, earlier_adds, earlier_seen, line_earlier, shown_more}
 use Rattle.bp_shared.proofs.Posting.{posted_adds}
 use Rattle.bp_shared.proofs.Owning.{read-lacks}
@@ -31,6 +31,9 @@ returns g c =
       room = λ is. let no = read_full _ _ _ _ done.asked is in fills 1 1 _ c.self.inside.core c.ask_read-answer.new.core _ c.self.invariant.0.parameters_are (omega arith) no.0 no.1 c.write-2.ensures.list_is;
       ends = refl;
       outcome = done.outcome;
+      passes = done.passes;
+      places = done.places;
+      memory = read_wants _ _ _ _ _ done.asked c.write-2.ensures.list_is;
       size = rw c.session.invariant.1 at done.size;
       unknown = read-lacks _ _ _ _ _ _ _ _ done.asked (rw (← c.self.view_is) at c.requires.entered.legal)
           (rw (← c.self.view_is, ← c.session.view_is) at c.requires.entered.list_is) (rw (← c.session.view_is) at c.requires.own);

@@ -31,6 +31,8 @@ returns g c =
       room = λ is. let no = read_into_full _ _ _ _ _ _ _ done.asked is in fills 1 1 _ c.self.inside.core c.ask_read_into-answer.new.core _ c.self.invariant.0.parameters_are (omega arith) no.0 no.1 c.write-2.ensures.list_is;
       ends = refl;
       outcome = done.outcome;
+      passes = done.passes;
+      places = done.places;
       memory = done.memory;
       unknown = read-into-lacks _ _ _ _ _ _ _ _ _ _ _ done.asked (rw (← c.self.view_is) at c.requires.entered.legal)
           (rw (← c.self.view_is, ← c.session.view_is) at c.requires.entered.list_is) (rw (← c.session.view_is) at c.requires.own);

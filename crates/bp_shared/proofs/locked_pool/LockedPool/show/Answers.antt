@@ -30,7 +30,6 @@ returns-clause-sees g c =
         passes = s.book.passes;
         copies = s.book.copies;
         places = s.book.places;
-        kept = s.book.kept;
       };
       free = omega arith;
       legal = legal;

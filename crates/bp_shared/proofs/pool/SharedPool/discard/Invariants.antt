@@ -1,7 +1,8 @@
 -- The turns so far.
-use Rattle.std.proofs.Common.{◌≡◌, ◌<◌, ◌⊎◌, length}
+use Rattle.std.proofs.Common.{◌≡◌}
 use Rattle.bp_shared.proofs.Discarding.{DiscardWaits}
 use Rattle.bp_shared.specs.Keeping.{MayAct}
+use Rattle.bp_shared.specs.Sessions.{IsRoomy}
 use Rattle.bp_shared.proofs.pool.SharedPool.discard.Given as goal
 
 abbrev pub invariant-loop : goal.invariant-loop
@@ -10,6 +11,6 @@ invariant-loop g l =
       client : l.session.client ≡ l.initial.session.client;
       before : l.session.before ≡ l.initial.session.before;
       acts : MayAct g.N.PoolName.parameters g.N.PoolName.past l.initial.session l.session;
-      fresh : (l.session ≡ l.initial.session) ⊎ (length l.initial.session.said < length l.session.said);
+      roomy : IsRoomy l.initial.session → IsRoomy l.session;
       waits : DiscardWaits l.initial.session.client l.page l.initial.session.said l.session.said;
     }

@@ -1,17 +1,17 @@
 -- Where memory is refused, nothing is asked.
-use Rattle.std.proofs.Common.{refl, sym, ap, subst, ◌∙◌, Err, inr}
+use Rattle.std.proofs.Common.{arith, refl, sym, ap, subst, ◌∙◌, Err, inr}
 use Rattle.std.proofs.lemmas.Bool.{false≢true}
 use Rattle.std.proofs.lemmas.Result.{err_from_is_err_and}
 use Rattle.bp_session_log.specs.Turns.{ReadIntoSaid}
 use Rattle.bp_core.specs.Outcomes.{pass_is_out}
 use Rattle.bp_shared.specs.Sessions.{SessionValue}
-use Rattle.bp_shared.proofs.Acting.{acted, begun, unasked}
+use Rattle.bp_shared.proofs.Acting.{acted, begun, unasked, too_long}
 use Rattle.bp_shared.proofs.Working.{why-of}
 use Rattle.bp_shared.proofs.pool.SharedPool.read_into.Goals as goal
 
-pub returns-in_err-reserve_for_event : goal.returns-in_err-reserve_for_event
-returns-in_err-reserve_for_event g c =
-    let refused = c.in_err-reserve_for_event.ensures in
+pub returns-in_err-reserve : goal.returns-in_err-reserve
+returns-in_err-reserve g c =
+    let refused = c.in_err-reserve.ensures in
     let is = err_from_is_err_and c.from_residual.result c.from_residual.ensures.1 in
     let why = is.1 ∙ ap Err (is.2 ∙ ap why-of refused.refused) in
     let own = sym c.client.ensures ∙ c.if-client.false ∙ c.client-2.ensures ∙ sym (ap (λ (s : SessionValue). s.client) c.session.view_is) in
@@ -20,20 +20,24 @@ returns-in_err-reserve_for_event g c =
         client = refused.same.client;
         before = refused.same.before;
         acts = unasked _ _ _ _ _ why (record { client = refused.same.client; said = refused.same.said; seen = refl; free = refl });
+        roomy = λ had. (omega (arith, refused.keeps_passes, had.0), omega (arith, refused.keeps_places, had.1));
       };
       room = λ full. absurd (let no = sym why ∙ full in cc);
       stranger = λ not. absurd (not own);
       unknown = λ is. absurd (let no = sym why ∙ is in cc);
-      outcome = subst (λ r. ReadIntoSaid c.session.inside.book.client c.args.pass.now c.args.offset c.args.into.now r c.args.into.now c.session.inside.book.said c.reserve_for_event.new.self.said) (sym why) ((own, refused.same.said), refl);
-      memory = λ silent roomy. absurd (false≢true (refused.memory silent roomy));
+      outcome = subst (λ r. ReadIntoSaid c.session.inside.book.client c.args.pass.now c.args.offset c.args.into.now r c.args.into.now c.session.inside.book.said c.reserve.new.self.said) (sym why) ((own, refused.same.said), refl);
+      memory = λ silent roomy no. too_long _ _ refused.same.said (λ short. false≢true (refused.memory silent short (omega arith) (omega (arith, roomy.1))));
     })
 
 pub returns : goal.returns
 returns g c =
-    let same = c.in_ok-reserve_for_event.ensures.same in
+    let grows = c.in_ok-reserve.ensures in
+    let same = grows.same in
     let entered = c.lock_and_drain-state.ensures in
     let client = ap (λ (s : SessionValue). s.client) entered.session ∙ same.client in
     let said = ap (λ (s : SessionValue). s.said) entered.session ∙ same.said in
+    let passes = ap (λ (s : SessionValue). s.passes) entered.session in
+    let places = ap (λ (s : SessionValue). s.places) entered.session in
     let done = c.read_into.ensures in
     let own = sym c.client.ensures ∙ c.if-client.false ∙ c.client-2.ensures ∙ sym (ap (λ (s : SessionValue). s.client) c.session.view_is) in
     rw (← c.session.view_is) (record {
@@ -41,10 +45,11 @@ returns g c =
         client = done.client ∙ client;
         before = done.before ∙ ap (λ (s : SessionValue). s.before) entered.session ∙ same.before;
         acts = acted _ _ _ _ _ (begun _ _ _ _ _ entered.free (ap (λ (s : SessionValue). s.seen) entered.session) done.acted);
+        roomy = λ had. (omega (arith, grows.keeps_passes, passes, done.passes, had.0), omega (arith, grows.keeps_places, places, done.places, had.1));
       };
       room = done.room;
       stranger = λ not. absurd (not own);
       unknown = λ is. inr (sym (ap (pass_is_out c.args.pass.now) said) ∙ done.unknown is);
       outcome = rw (client, said) at done.outcome;
-      memory = λ silent roomy. done.memory silent;
+      memory = λ silent roomy no. absurd (done.memory silent no);
     })

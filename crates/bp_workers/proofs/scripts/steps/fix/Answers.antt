@@ -7,6 +7,7 @@ use Rattle.bp_trail.specs.Pieces.Outcome.{refused}
 use Rattle.bp_trail.specs.Pieces.FixPiece.{no_memory}
 use Rattle.bp_trail.specs.Pieces.FixGoesOn.{begins}
 use Rattle.bp_shared.proofs.Working.{none-yet}
+use Rattle.bp_shared.proofs.Writing.{work_of_some}
 use Rattle.bp_workers.proofs.Holding.{fix-holds, refused_fix-holds}
 use Rattle.bp_workers.proofs.Stepping.{fix_said, fix_refused, none_said}
 use Rattle.bp_workers.proofs.scripts.steps.fix.Goals as goal
@@ -27,7 +28,7 @@ returns-in_err-pass g c =
     let is = err_from_is_err_and c.from_residual-in_err-pass.result c.from_residual-in_err-pass.ensures.1 in
     rw (is.1 ∙ ap Err is.2) (record {
       same = (c.fix.ensures.keeps.client, c.fix.ensures.keeps.before);
-      work = gone.work;
+      work = work_of_some _ _ c.args.client.now.session c.fix.new.session _ _ _ _ gone.work;
       outcome = fix_refused c.args.client.now.session.client c.args.page c.in_err-pass.field-0.0 c.args.client.now.session.said c.fix.new.session.said gone.outcome;
       held = c.reserve.ensures.passes ∙ c.requires.held ∙ sym (refused_fix-holds c.args.client.now.session.client c.args.page c.in_err-pass.field-0.0 c.args.client.now.session.said c.fix.new.session.said gone.outcome);
     })
@@ -37,7 +38,7 @@ returns g c =
     let done = c.in_ok-pass.ensures in
     record {
       same = (c.fix.ensures.keeps.client, c.fix.ensures.keeps.before);
-      work = done.work;
+      work = work_of_some _ _ c.args.client.now.session c.fix.new.session _ _ _ _ done.work;
       outcome = fix_said c.args.client.now.session.client c.args.page c.in_ok-pass.pass c.args.client.now.session.said c.fix.new.session.said done.outcome;
       held = fix-holds c.args.client.now.session.client c.args.page c.in_ok-pass.pass c.args.client.now.session.said c.fix.new.session.said c.reserve.new.self.passes c.push.new.self.passes done.outcome (c.reserve.ensures.passes ∙ c.requires.held)
           (c.push.ensures.passes ∙ ap (λ (note : Grant). c.reserve.new.self.passes ++ note ∷ []) c.note.ensures);
