@@ -176,7 +176,8 @@ impl<K: ListKeeper> Book<K> {
 
     /// Takes the memory for so many entries, passes and copies of images more, beside all that is owed. No entry is
     /// added. Where memory is refused, which is `OutOfMemory`, the list is as before, and some of the room may be
-    /// there. A list that takes no memory for its entries is refused none for passes and copies that it has room for.
+    /// there. A list that takes no memory for its entries, and has fewer than 2^61, is refused none for passes and
+    /// copies that it has room for.
     pub fn reserve(&mut self, more: u32, passes: u32, copies: u32) -> Result<(), Refusal>
         ensures same { SameBook self.old self.new }
         ensures keeps_passes { self.old.passes ≤ self.new.passes }

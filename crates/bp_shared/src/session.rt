@@ -76,7 +76,7 @@ impl<N: PoolName, K: ListKeeper> Model for Session<N, K> {
 }
 
 impl<N: PoolName, K: ListKeeper> Session<N, K> {
-    ghost use Rattle.std.specs.Prelude.{◌≡◌, ◌<◌, ℕ, false, [], All, OnOk, OnErr, length, slice_get, slice_index_or};
+    ghost use Rattle.std.specs.Prelude.{◌≡◌, ◌<◌, ◌≤◌, ℕ, false, [], All, OnOk, OnErr, length, slice_get, slice_index_or};
     ghost use Rattle.bp_page.specs.declared.refusals.Refusal.TheVariants as Refusal;
     ghost use Rattle.bp_session_log.specs.Rings.{ring_of};
     ghost use Rattle.bp_shared.specs.Posting.{IsUnused};
@@ -154,6 +154,8 @@ impl<N: PoolName, K: ListKeeper> Session<N, K> {
           places = self.new.places;
         } }
         ensures roomy { OnOk result (IsRoomyFor passes self.new) }
+        ensures entries { OnOk result (4 ≤ self.new.room) }
+        ensures copies { OnOk result (2 ≤ self.new.copies) }
         ensures keeps { (n : ℕ) → IsRoomyFor n self.old → IsRoomyFor n self.new }
         ensures refused { OnErr result (result ≡ Err Refusal.OutOfMemory) }
         ensures memory { K.REFUSES ≡ false → IsRoomyFor passes self.old

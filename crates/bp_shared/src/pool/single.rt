@@ -107,7 +107,7 @@ impl<N: PoolName, K: ListKeeper> SharedPool<N, K> {
 
     /// Writes bytes into a pass's page, from the offset on, and raises the page LSN to `lsn` if that is greater.
     /// Refusals as from `read`; a silent session takes no memory for the bytes, and answers `OutOfMemory` as from `tick`.
-    /// So between a log record and its write nothing is refused for want of memory.
+    /// So between a log record and its write nothing of a silent session is refused for want of memory.
     pub fn write_from<R: Wait>(
         &self,
         rt: &R,
