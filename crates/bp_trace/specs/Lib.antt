@@ -3,6 +3,7 @@ pub mod Numbers
 pub mod Faults
 pub mod Fields
 pub mod Record
+pub mod Reasons
 pub mod Script
 pub mod Reading
 pub mod Input

@@ -3,6 +3,7 @@
 #![tactic(auto)]
 
 pub mod decimal;
+mod explaining;
 mod faults;
 mod fields;
 mod input;
@@ -10,11 +11,13 @@ pub mod laws;
 mod lines;
 mod number_lists;
 mod printing;
+mod reasons;
 mod record;
 mod script;
 mod total_lines;
 
+pub use explaining::explain_fault;
 pub use faults::{InputFault, TraceFault};
 pub use number_lists::{MAX_LISTED, numbers_listed};
 pub use printing::{ReportRun, report, report_rows, report_totals};
-pub use script::read_script;
+pub use script::{read_script, read_script_into};

@@ -1,5 +1,5 @@
 //! `parse_row`, which turns one record of a trace into a row.
-ghost use Rattle.std.specs.Prelude.{◌≡◌};
+ghost use Rattle.std.specs.Prelude.{◌≡◌, Err, OnErr};
 ghost use Rattle.csv.specs.Records.{fields_of};
 ghost use Rattle.bp_trace.specs.Fields.{Gives, texts_of};
 ghost use Rattle.bp_trace.specs.Record.{has_extra, is_log, op_in, place_in, row_in, step_in, texts_row, write_in};
@@ -13,7 +13,7 @@ use std::alloc::Global;
 
 /// The operation of a record.
 #[derive(Clone, Copy)]
-enum Op {
+pub enum Op {
     Fix,
     Unfix,
     Read,
@@ -27,8 +27,9 @@ enum Op {
 
 /// Returns the operation of a word in lower case. Any other word is `BadOp`.
 #[tactic(auto, unfolding(crate::specs::Record::op_in))]
-fn parse_op(text: &[u8]) -> Result<Op, InputFault>
-    ensures { result ≡ op_in text.now }
+pub fn parse_op(text: &[u8]) -> Result<Op, InputFault>
+    ensures op { result ≡ op_in text.now }
+    ensures fault { OnErr result (result ≡ Err InputFault.BadOp) }
 {
     if text == b"fix".as_slice() {
         Ok(Op::Fix)
@@ -54,14 +55,14 @@ fn parse_op(text: &[u8]) -> Result<Op, InputFault>
 }
 
 /// Returns true for `log`, which only client 0 may ask for.
-fn is_log(op: Op) -> bool
+pub fn is_log(op: Op) -> bool
     ensures { result ≡ is_log op }
 {
     matches!(op, Op::Log)
 }
 
 /// Returns true if a field that the operation does not use is not empty.
-fn has_extra(op: Op, fields: &Fields<'_>) -> bool
+pub fn has_extra(op: Op, fields: &Fields<'_>) -> bool
     ensures { result ≡ has_extra op (texts_of fields.now) }
 {
     match op {

@@ -1,4 +1,4 @@
-//! `read_script`, which reads a trace whole and parses its rows.
+//! `read_script_into` and `read_script`, which read a trace whole and parse its rows.
 ghost use Rattle.std.specs.Prelude.{◌≡◌, ◌≤◌, ◌⊎◌, ℕ, List, [], Some, All, IfOk, IfSome, OnOk, length};
 ghost use Rattle.std.specs.Io.KnownBytes.{IsAtEnd};
 ghost use Rattle.csv.specs.Reading.{Ready, default_config, error_kind, reader_trim, records, strip_bom};
@@ -98,6 +98,34 @@ fn rows_of(alloc: Global, bytes: &[u8], geometry: &Geometry) -> Result<Vec<Row>,
 /// The fault of a record has its number, from 1: `BadShape`, `BadClient`, `BadOp`, `BadNumber`, `BadHex` or
 /// `OutOfPage`, or `TooLong` for the record after 262,144. Row 0 has `TooLong` for more than 67,108,864 bytes,
 /// `ReadFault` for a reader that fails or needs more than 134,217,728 calls, and `OutOfMemory`.
+///
+/// After a fault of a record `text` has the bytes of the trace, from which `explain_fault` says what is wrong.
+pub fn read_script_into<R: Read>(
+    alloc: Global,
+    reader: &mut R,
+    geometry: &Geometry,
+    text: &mut Vec<u8>,
+) -> Result<Vec<Row>, TraceFault>
+    ensures script { IfSome (R.remaining reader.old) (λ bytes.
+        Answers result (script_of geometry.now bytes)) }
+    ensures end { OnOk result (IsAtEnd (R.remaining reader.new)) }
+
+    // The rows are those of some records, even of a reader whose bytes are not known.
+    ensures some { IfOk result (λ rows. IsScriptOfSome geometry.now rows.items) }
+
+    // These three are all that holds of every script: rows with them read back as themselves, by
+    // `laws::written_rows_read_back`.
+    ensures few { IfOk result (λ rows. length rows.items ≤ most_rows) }
+    ensures numbered { IfOk result (λ rows. AreNumberedFrom 1 rows.items) }
+    ensures in_range { IfOk result (λ rows. All (IsInRange geometry.now) rows.items) }
+{
+    let bytes = read_all(alloc, reader)?;
+    let rows = rows_of(alloc, bytes.as_slice(), geometry);
+    *text = bytes;
+    rows
+}
+
+/// Reads the rows of a trace, or returns the first fault, as `read_script_into` does.
 pub fn read_script<R: Read>(
     alloc: Global,
     reader: &mut R,
@@ -116,6 +144,6 @@ pub fn read_script<R: Read>(
     ensures numbered { IfOk result (λ rows. AreNumberedFrom 1 rows.items) }
     ensures in_range { IfOk result (λ rows. All (IsInRange geometry.now) rows.items) }
 {
-    let bytes = read_all(alloc, reader)?;
-    rows_of(alloc, bytes.as_slice(), geometry)
+    let mut text = Vec::new(alloc);
+    read_script_into(alloc, reader, geometry, &mut text)
 }
