@@ -18,7 +18,7 @@ const STATUSES: &str = "\
 Without tick rows no page is evicted. --retained acts at purge rows alone. bpool --help shows
 a trace, and what each number says.
 Status 0: all rows were accepted. Status 1: some row was refused; the report says which, and why.
-Status 2: one line on standard error says why there is no report, or only a part of it.";
+Status 2: standard error says why there is no report, or only a part of it.";
 
 const PURPOSES: &str = "\
 A buffer pool with LRU-K replacement
@@ -109,12 +109,12 @@ Numbers after the word refused:
 
 Status 0: all rows were accepted, a table or NEW was made, or the words asked for an answer.
 Status 1: some row was refused.
-Status 2: one line on standard error says why there is no report, or only a part of it.";
+Status 2: standard error says why there is no report, or only a part of it.";
 
 /// The end of the help of `bpool migrate`.
 const MIGRATION: &str = "\
 Each page gets its number and LSN 0. NEW is written beside itself as NEW.migrating, and takes its
-name once it is whole. Status 0: NEW is made. Status 2: one line on standard error says why it is
+name once it is whole. Status 0: NEW is made. Status 2: standard error says why it is
 not; OLD is as it was.";
 
 const RUN: &str = "Runs a trace over a buffer pool and reports what the pool did";
@@ -180,7 +180,7 @@ LAST, and LAST. So 16..100 is 16,32,64,100.
 Prints a line of CSV for each number of frames with each K, and one with k opt for the optimum,
 which knows what comes. K 1 is LRU. FILE is SVG, which a browser shows, and is overwritten, unless
 it is the file of REFERENCES.
-Status 0: all lines are printed, and FILE is made. Status 2: one line on standard error says why
+Status 0: all lines are printed, and FILE is made. Status 2: standard error says why
 there is no table, or only a part of it, or no picture.";
 
 /// Returns an argument that must be there.

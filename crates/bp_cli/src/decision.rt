@@ -76,6 +76,21 @@ fn text_of(alloc: Global, words: &[&str], error: &Error) -> Result<String, Alloc
     }
 }
 
+/// Returns the text of a fault with the name that clap thinks was meant, if it has one, which stands in a paragraph of
+/// its own.
+fn with_similar(alloc: Global, text: &str) -> Result<String, AllocError> {
+    match text.split_once("\n\n  tip: a similar ") {
+        Some((fault, similar)) => format!(in alloc; "{fault}; a similar {similar}"),
+        None => String::from_str(alloc, text),
+    }
+}
+
+/// Returns a fault of the words, as a line.
+fn line_of(alloc: Global, text: &str) -> Result<Line, AllocError> {
+    let text = with_similar(alloc, text)?;
+    Line::of(alloc, text.as_str())
+}
+
 /// Returns how the program ends where clap refused the words.
 fn refused(alloc: Global, words: &[&str], error: &Error) -> Ending
     ensures { IsRefusal (kind_of error.now) result }
@@ -93,7 +108,7 @@ fn refused(alloc: Global, words: &[&str], error: &Error) -> Ending
     if error.kind() == ErrorKind::DisplayHelp {
         return Ending::Help(text);
     }
-    match Line::of(alloc, text.as_str()) {
+    match line_of(alloc, text.as_str()) {
         Ok(line) => Ending::CommandLine(line),
         Err(_) => no_memory,
     }

@@ -5,9 +5,9 @@ ghost use Rattle.bp_cli.specs.Ending.{is_help, message_of, on_err, on_out, statu
 ghost use Rattle.bp_cli.specs.Line.{is_line};
 
 use crate::line::Line;
-use bp_page::Refusal;
+use bp_page::{Refusal, explanation_of};
 use bp_trace::{InputFault, TraceFault};
-use std::io::Write;
+use std::io::{ErrorKind, Write};
 use std::{fmt, io};
 
 pub const VERSION: &str = "0.12.0";
@@ -78,6 +78,22 @@ impl fmt::Display for Ending {
 }
 
 impl Ending {
+    /// Returns what its number says of the reason, where it has one.
+    pub fn explanation(&self) -> Option<&'static str> {
+        let number = match self {
+            Ending::PageFileRefused(Refusal::BadGeometry) => {
+                return Some(
+                    "a page file has 1 to 1048576 pages; a page has 16 to 65536 bytes, a multiple of 16",
+                );
+            }
+            Ending::PageFileRefused(refusal) | Ending::RunRefused(refusal) => refusal.number(),
+            Ending::TraceRefused(fault) => fault.number,
+            Ending::ReferenceRefused { why, .. } => why.number(),
+            _ => return None,
+        };
+        explanation_of(u64::from(number))
+    }
+
     /// Returns true for help and for the version.
     pub fn is_help(&self) -> bool
         ensures { result ≡ is_help self.now }
@@ -112,8 +128,8 @@ impl Ending {
 
     /// Writes its message, and returns the exit status.
     ///
-    /// A fault of `err` is ignored. Where help or the version can't be written, `output failed` is written to `err`,
-    /// and the status is 2.
+    /// A fault of `err` is ignored. Where help or the version can't be written, `output failed` and why is written to
+    /// `err`, and the status is 2; where the reader of the output has gone, nothing is written.
     pub fn finish<W: Write, E: Write>(&self, out: &mut W, err: &mut E) -> u8
         ensures help { result ≡ 0 → (is_help self.now ≡ true) ×
             Appends (W.contents out.old) (W.contents out.new) (message_of self.now) }
@@ -125,8 +141,10 @@ impl Ending {
         if said.is_ok() {
             return self.status();
         }
-        if self.is_help() {
-            let _ = writeln!(err, "{}", Ending::OutputFailed);
+        if let Err(error) = said {
+            if self.is_help() && error.kind() != ErrorKind::BrokenPipe {
+                let _ = writeln!(err, "{}\nstandard output: {error}", Ending::OutputFailed);
+            }
         }
         2
     }

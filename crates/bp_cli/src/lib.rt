@@ -7,9 +7,11 @@ mod decision;
 mod ending;
 pub mod laws;
 mod line;
+mod stop;
 mod words;
 
 pub use decision::decide;
 pub use ending::{Ending, VERSION};
 pub use line::Line;
+pub use stop::{Reason, Stop, SystemFault};
 pub use words::{MigrationWords, Order, RunWords, SweepWords, Task, TraceSource};

@@ -66,6 +66,14 @@ impl Line {
         Ok(Line { text })
     }
 
+    /// Returns all of a text, with a question mark for each control character.
+    pub fn plain(alloc: Global, text: &str) -> Result<Line, AllocError>
+        ensures { IfOk result (λ line. string_bytes line.text ≡ spec.plain text.now) }
+    {
+        let text = plain(alloc, text)?;
+        Ok(Line { text })
+    }
+
     pub fn as_str(&self) -> &str
         ensures { result.now ≡ string_bytes self.now.text }
     {
