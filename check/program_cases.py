@@ -3,6 +3,8 @@
 Of a run that is its errors, its output, its status and the files of its folder, in this order.
 """
 
+import contextlib
+import fcntl
 import itertools
 import os
 import pty
@@ -57,7 +59,7 @@ class Run:
             self.before.append(rest)
         elif word == "with":
             what, at = rest.split()
-            if what not in (*STREAMS, *LIMITS, "memory"):
+            if what not in (*STREAMS, *LIMITS, "memory", "locked"):
                 raise ValueError(f"no program is run with '{what}'")
             self.how[what] = at
         elif word == "bpool":
@@ -236,13 +238,26 @@ def limit(how):
         resource.setrlimit(LIMITS[what], (int(how[what]), int(how[what])))
 
 
+@contextlib.contextmanager
+def locked(folder, name):
+    """Has a file of a folder locked, where one is named."""
+    if name is None:
+        yield
+        return
+    with open(os.path.join(folder, name.encode()), "rb") as file:
+        fcntl.flock(file, fcntl.LOCK_EX)
+        yield
+
+
 def ran(program, run, folder, more=(), kept=()):
     """Runs the program in a folder, with more in its environment. Returns its errors, its output and its status."""
     ends = {what: stream(what, at, folder, run.given) for what, at in run.how.items() if what in STREAMS}
     how = {"cwd": folder, "pass_fds": kept, "preexec_fn": lambda: limit(run.how), "encoding": None, "errors": None}
     to = {"stderr": subprocess.PIPE, **{STREAMS[what][0]: its for what, (_, its) in ends.items()}}
     try:
-        came = runner.ended([program, *run.words], SECONDS, more, None if "input" in ends else run.given, **how, **to)
+        with locked(folder, run.how.get("locked")):
+            given = None if "input" in ends else run.given
+            came = runner.ended([program, *run.words], SECONDS, more, given, **how, **to)
     except subprocess.TimeoutExpired:
         raise ValueError(f"it had not ended after {SECONDS} seconds") from None
     finally:

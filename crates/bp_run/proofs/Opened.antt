@@ -10,9 +10,11 @@ use Rattle.bp_trail.specs.Parameters.{Parameters}
 use Rattle.bp_core.specs.Work.{Reads, Writes}
 use Rattle.bp_trace.specs.InRange.{IsInRange}
 use Rattle.bp_cli.specs.declared.ending.Ending.{Ending}
+use Rattle.bp_cli.specs.declared.stop.Stop.{Stop}
 use Rattle.bp_cli.specs.declared.words.Order.{Order}
 use Rattle.bp_cli.specs.declared.words.Order.TheVariants as order
 use Rattle.bp_cli.specs.Words.{RunOptions}
+use Rattle.bp_run.specs.Opening.{Ends}
 use Rattle.bp_run.specs.PageFile.{IsNamed}
 use Rattle.bp_run.specs.Scripts.{scripts_of}
 use Rattle.bp_run.specs.Ways.{Ways}
@@ -41,7 +43,7 @@ rows_fit t g h rows c in_range same made k d inside =
     (omega (arith, row.client, ap (λ (q : Parameters). q.clients) made))
 
 -- a run in the order of the trace over the one port
-pub in_trace : {P : Type 0} (reads : Reads P) (writes : Writes P) (o : Order) (t : RunOptions) (g h : Geometry) (ports : List P) (port : P) (totals : Bool) (rows said : List Row) (old new : Option (List ℕ)) (result : Result Bool Ending)
+pub in_trace : {P : Type 0} (reads : Reads P) (writes : Writes P) (o : Order) (t : RunOptions) (g h : Geometry) (ports : List P) (port : P) (totals : Bool) (rows said : List Row) (old new : Option (List ℕ)) (result : Result Bool Stop)
     → o ≡ order.Trace → h ≡ g → said ≡ rows → length ports ≡ ports_for o rows → port ≡ get_or ports 0 port → IfOk result (λ ok. Reports reads writes totals (parameters_for order.Trace t h said) port said ok old new)
     → IfOk result (λ ok. ReportsIn reads writes o totals (parameters_for o t g rows) ports rows ok old new)
 in_trace reads writes order.Trace t g h ports port totals rows said old new (Ok ok) is same are one first reports = (
@@ -54,13 +56,13 @@ in_trace reads writes order.Trace t g h ports port totals rows said old new (Err
 in_trace reads writes order.Free t g h ports port totals rows said old new result is same are one first reports = cc
 
 -- and a run in free order over all of them
-pub in_free : {P : Type 0} (reads : Reads P) (writes : Writes P) (o : Order) (t : RunOptions) (g : Geometry) (ports : List P) (totals : Bool) (rows : List Row) (old new : Option (List ℕ)) (result : Result Bool Ending) → o ≡ order.Free
+pub in_free : {P : Type 0} (reads : Reads P) (writes : Writes P) (o : Order) (t : RunOptions) (g : Geometry) (ports : List P) (totals : Bool) (rows : List Row) (old new : Option (List ℕ)) (result : Result Bool Stop) → o ≡ order.Free
     → IfOk result (λ ok. ReportsFree reads writes totals (parameters_for order.Free t g rows) ports (scripts_of rows) ok old new) → IfOk result (λ ok. ReportsIn reads writes o totals (parameters_for o t g rows) ports rows ok old new)
 in_free reads writes order.Free t g ports totals rows old new result is reports = reports
 in_free reads writes order.Trace t g ports totals rows old new result is reports = cc
 
 -- what is reported over the page file that was opened
-pub over_pages : {F P T : Type 0} (ways : Ways F P T) (bytes_of : T → Option (List ℕ)) (reads : Reads P) (writes : Writes P) (t : RunOptions) (bytes old new : Option (List ℕ)) (result : Result Bool Ending)
+pub over_pages : {F P T : Type 0} (ways : Ways F P T) (bytes_of : T → Option (List ℕ)) (reads : Reads P) (writes : Writes P) (t : RunOptions) (bytes old new : Option (List ℕ)) (result : Result Bool Stop)
     (file : F) (h : Geometry) (rows lent : List Row) (ports : Vec P Global)
     → ways.opens t.page_file t.size t.format (Ok file) → IsNamed t.page_file t.size t.format (ways.memory file) (ways.geometry file) (ways.headed file)
     → h ≡ ways.geometry file → lent ≡ rows → AreRead ways.traces bytes_of t.trace h bytes rows → ways.connects file (ports_for t.order lent) (Ok ports)
@@ -97,8 +99,8 @@ pub stopped_at_ports : {F P T : Type 0} (ways : Ways F P T) (bytes_of : T → Op
 stopped_at_ports ways bytes_of t bytes ended file h rows lent opened same are read not =
     stopped_after ways bytes_of t bytes ended file h rows opened same read (inl (subst (λ rows. NotConnected ways file (ports_for t.order rows) ended) are not))
 
-pub stopped_in_run : {F P T : Type 0} (ways : Ways F P T) (bytes_of : T → Option (List ℕ)) (t : RunOptions) (bytes : Option (List ℕ)) (result : Result Bool Ending) (file : F) (h : Geometry) (rows : List Row)
+pub stopped_in_run : {F P T : Type 0} (ways : Ways F P T) (bytes_of : T → Option (List ℕ)) (t : RunOptions) (bytes : Option (List ℕ)) (result : Result Bool Stop) (file : F) (h : Geometry) (rows : List Row)
     → ways.opens t.page_file t.size t.format (Ok file) → h ≡ ways.geometry file → AreRead ways.traces bytes_of t.trace h bytes rows
-    → IfErr result (NotReported t.order) → IfErr result (StopsRun ways bytes_of t bytes)
+    → IfErr result (Ends (NotReported t.order)) → IfErr result (Ends (StopsRun ways bytes_of t bytes))
 stopped_in_run ways bytes_of t bytes (Ok ok) file h rows opened same read not = tt
-stopped_in_run ways bytes_of t bytes (Err ended) file h rows opened same read not = stopped_after ways bytes_of t bytes ended file h rows opened same read (inr not)
+stopped_in_run ways bytes_of t bytes (Err stop) file h rows opened same read not = stopped_after ways bytes_of t bytes stop.ending file h rows opened same read (inr not)

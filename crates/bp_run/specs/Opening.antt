@@ -7,6 +7,11 @@ use Rattle.bp_ports.specs.declared.migration.MigrateFault.{MigrateFault}
 use Rattle.bp_ports.specs.declared.migration.MigrateFault.TheVariants as migrate_fault
 use Rattle.bp_cli.specs.declared.ending.Ending.{Ending}
 use Rattle.bp_cli.specs.declared.ending.Ending.TheVariants as ending
+use Rattle.bp_cli.specs.declared.stop.Stop.{Stop}
+
+-- this holds of how the program ends, whatever the reason
+abbrev pub Ends : (Ending → Type 0) → Stop → Type 0
+Ends cause stop = cause stop.ending
 
 abbrev pub ending_of : OpenFault → Ending
 ending_of (Refused refusal) = ending.PageFileRefused refusal

@@ -6,6 +6,7 @@ ghost use Rattle.bp_workers.specs.ScriptRuns.{IsRun};
 ghost use Rattle.bp_core.specs.Agreement.{parameters_with};
 ghost use Rattle.bp_trace.specs.InRange.{IsInRange};
 ghost use Rattle.bp_cli.specs.Decision.{IsRunnable};
+ghost use Rattle.bp_run.specs.Opening.{Ends};
 ghost use Rattle.bp_run.specs.Run.{ReportsFree, parameters_for};
 ghost use Rattle.bp_run.specs.Scripts.{clients_of, scripts_of};
 ghost use Rattle.bp_run.specs.Stops.{NotReported};
@@ -13,7 +14,7 @@ ghost use Rattle.bp_cli.specs.Words.{options_of};
 
 use crate::run::{print_run, room_for};
 use crate::scripts::{client_count, split};
-use bp_cli::{Ending, Order, RunWords};
+use bp_cli::{Ending, Order, Reason, RunWords, Stop};
 use bp_core::{Row, Settings};
 use bp_page::Geometry;
 use bp_ports::Port;
@@ -46,7 +47,7 @@ fn run_threads<P: Port + Send, R: Threads + Wait + Sync>(
     config: Config,
     ports: Vec<P>,
     rows: Vec<Row>,
-) -> Result<Outcome, Ending>
+) -> Result<Outcome, Stop>
     requires ports { vec_len ports ≡ clients_of rows.items }
     requires alike { All (λ p. P.geometry_of p ≡ config.geometry) ports.items }
     requires fits { All (IsInRange config.geometry) rows.items }
@@ -54,19 +55,22 @@ fn run_threads<P: Port + Send, R: Threads + Wait + Sync>(
     ensures run { IfOk result (λ run. (after : List P) × IsRun P.read_gives P.write_gives
         (parameters_with config (clients_of rows.items)) (scripts_of rows.items) ports.items
         run.trail.items (lists run.said.items) run.refused.items after) }
-    ensures fault { IfErr result (NotReported Order.Free) }
+    ensures fault { IfErr result (Ends (NotReported Order.Free)) }
 {
     let clients = client_count(&rows);
     let scripts = match split(alloc, rows, clients) {
         Ok(scripts) => scripts,
-        Err(refusal) => return Err(Ending::RunRefused(refusal)),
+        Err(refusal) => return Err(Stop::from(Ending::RunRefused(refusal))),
     };
     match run_clients(rt, alloc, config, scripts, ports) {
         Ok(ran) => {
             let (outcome, _) = ran;
             Ok(outcome)
         }
-        Err(refusal) => Err(Ending::RunRefused(refusal)),
+        Err(refusal) => Err(Stop {
+            ending: Ending::RunRefused(refusal),
+            reason: Reason::Unsaid,
+        }),
     }
 }
 
@@ -80,7 +84,7 @@ pub(crate) fn run_free<P: Port + Send, R: Threads + Wait + Sync, W: Write>(
     geometry: Geometry,
     rows: Vec<Row>,
     out: &mut W,
-) -> Result<bool, Ending>
+) -> Result<bool, Stop>
     requires runnable { IsRunnable (options_of run.now) }
     requires ports { vec_len ports ≡ clients_of rows.items }
     requires alike { All (λ p. P.geometry_of p ≡ geometry) ports.items }
@@ -89,11 +93,12 @@ pub(crate) fn run_free<P: Port + Send, R: Threads + Wait + Sync, W: Write>(
         run.now.totals (parameters_for Order.Free (options_of run.now) geometry rows.items)
         ports.items (scripts_of rows.items) all_accepted
         (W.contents out.old) (W.contents out.new)) }
-    ensures fault { IfErr result (NotReported Order.Free) }
-    ensures kept { IfErr result (λ ended. ended ≢ Ending.OutputFailed → out.new ≡ out.old) }
+    ensures fault { IfErr result (Ends (NotReported Order.Free)) }
+    ensures kept { IfErr result (λ stop. stop.ending ≢ Ending.OutputFailed
+        → out.new ≡ out.old) }
 {
     let config = config_of(run, geometry, &rows);
     let outcome = run_threads(rt, alloc, config, ports, rows)?;
-    print_run(run.totals, &outcome.trail, &outcome.refused, out)?;
+    print_run(alloc, run.totals, &outcome.trail, &outcome.refused, out)?;
     Ok(outcome.refused.is_empty())
 }

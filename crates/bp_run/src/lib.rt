@@ -6,11 +6,13 @@
 
 mod awaiting;
 mod drawing;
+mod endings;
 mod explaining;
 mod file_ids;
 mod free;
 mod meter;
 mod migration;
+mod noted;
 mod open_pages;
 mod opening;
 mod page_files;

@@ -2,19 +2,21 @@
 ghost use Rattle.std.specs.Prelude.{◌≡◌, IfErr, false};
 ghost use Rattle.bp_cli.specs.Asked.{migration_of};
 ghost use Rattle.bp_cli.specs.Decision.{IsMigratable};
-ghost use Rattle.bp_run.specs.Opening.{ending_of_fault};
+ghost use Rattle.bp_run.specs.Opening.{Ends, ending_of_fault};
 ghost use Rattle.bp_run.specs.Stops.{StopsMigration};
 
 use crate::file_ids::FileId;
 use crate::meter::{Meter, clear_line};
-use bp_cli::{Ending, Line, MigrationWords};
+use crate::noted::Noted;
+use crate::page_files::PageFileReason;
+use bp_cli::{Ending, Line, MigrationWords, Reason, Stop, SystemFault};
 use bp_page::{Format, Geometry, Refusal};
 use bp_ports::{MigrateFault, Progress, Unwatched, geometry_of_file, migrate_watched};
 use std::alloc::Global;
-use std::fs;
 use std::fs::{File, OpenFile};
 use std::io::{BufReader, BufWriter, Read, Write};
 use std::rt::Files;
+use std::{fs, io};
 
 fn ending_of(fault: MigrateFault) -> Ending
     ensures said { result ≡ ending_of_fault fault }
@@ -27,13 +29,67 @@ fn ending_of(fault: MigrateFault) -> Ending
     }
 }
 
+fn no_memory() -> Stop
+    ensures { StopsMigration result.ending }
+{
+    Stop {
+        ending: Ending::PageFileRefused(Refusal::OutOfMemory),
+        reason: Reason::Unsaid,
+    }
+}
+
+/// Returns the end of the program where the old page file can't be read.
+fn not_read(alloc: Global, name: &str, error: io::Error) -> Stop
+    ensures { StopsMigration result.ending }
+{
+    Stop {
+        ending: Ending::PageFileNotOpened,
+        reason: Reason::of(alloc, &SystemFault { name, error }),
+    }
+}
+
+/// Returns the end of the program where the new page file can't be written.
+fn not_written(alloc: Global, name: &str, error: io::Error) -> Stop
+    ensures { StopsMigration result.ending }
+{
+    Stop {
+        ending: Ending::OutputFailed,
+        reason: Reason::of(alloc, &SystemFault { name, error }),
+    }
+}
+
+/// Returns why pages could not be copied. The reader and the writer of the page files at these paths had these errors
+/// last.
+fn reason_of(
+    alloc: Global,
+    fault: MigrateFault,
+    old: (&str, Option<io::Error>),
+    new: (&str, Option<io::Error>),
+) -> Reason {
+    let (name, error) = match fault {
+        MigrateFault::Read => old,
+        MigrateFault::Write => new,
+        MigrateFault::Memory => return Reason::Unsaid,
+    };
+    match error {
+        Some(error) => Reason::of(alloc, &SystemFault { name, error }),
+        None => Reason::Unsaid,
+    }
+}
+
 /// Returns the end of the program where the two page files that the words name can't be migrated.
-fn words_refused(alloc: Global, why: &str) -> Ending
-    ensures { StopsMigration result }
+fn words_refused(alloc: Global, why: &str) -> Stop
+    ensures { StopsMigration result.ending }
 {
     match Line::of(alloc, why) {
-        Ok(line) => Ending::CommandLine(line),
-        Err(_) => Ending::RunRefused(Refusal::OutOfMemory),
+        Ok(line) => Stop {
+            ending: Ending::CommandLine(line),
+            reason: Reason::Unsaid,
+        },
+        Err(_) => Stop {
+            ending: Ending::RunRefused(Refusal::OutOfMemory),
+            reason: Reason::Unsaid,
+        },
     }
 }
 
@@ -45,53 +101,71 @@ fn is_no_regular_file<R: Files>(rt: &R, path: &str) -> bool {
     }
 }
 
-/// Copies the pages, and syncs the new file.
+/// Writes what a writer has left, and syncs its file.
+fn finish_file<W: Write + OpenFile + Drop>(writer: &mut BufWriter<Noted<W>>) -> io::Result<()> {
+    writer.flush()?;
+    writer.get_ref().inner().sync_all()
+}
+
+/// Copies the pages, and syncs the new file, which is at the path `beside`.
 fn copy_pages<I: Read + Drop, W: Write + OpenFile + Drop, P: Progress>(
     alloc: Global,
+    words: &MigrationWords<'_>,
+    beside: &str,
     old: I,
     new: W,
     geometry: &Geometry,
     progress: &mut P,
-) -> Result<(), Ending>
-    ensures fault { IfErr result StopsMigration }
+) -> Result<(), Stop>
+    ensures fault { IfErr result (Ends StopsMigration) }
 {
-    let no_memory = Ending::PageFileRefused(Refusal::OutOfMemory);
-    let Ok(mut reader) = BufReader::new(alloc, old) else {
-        return Err(no_memory);
+    let Ok(mut reader) = BufReader::new(alloc, Noted::new(old)) else {
+        return Err(no_memory());
     };
-    let Ok(mut writer) = BufWriter::new(alloc, new) else {
-        return Err(no_memory);
+    let Ok(mut writer) = BufWriter::new(alloc, Noted::new(new)) else {
+        return Err(no_memory());
     };
     match migrate_watched(alloc, &mut reader, &mut writer, geometry, progress) {
         Ok(()) => {}
-        Err(fault) => return Err(ending_of(fault)),
+        Err(fault) => {
+            let read = reader.get_ref().error();
+            let written = writer.get_ref().error();
+            return Err(Stop {
+                ending: ending_of(fault),
+                reason: reason_of(alloc, fault, (words.old, read), (beside, written)),
+            });
+        }
     }
-    if writer.flush().is_err() || writer.get_ref().sync_all().is_err() {
-        return Err(Ending::OutputFailed);
+    match finish_file(&mut writer) {
+        Ok(()) => Ok(()),
+        Err(error) => Err(not_written(alloc, beside, error)),
     }
-    Ok(())
 }
 
-/// Makes a new file at the path `beside`, and renames it to `new`. Where a step fails, the file that was made is
+/// Makes a new file at the path `beside`, and renames it to that of the words. Where a step fails, the file that was made is
 /// removed.
 fn make_file<R: Files, P: Progress>(
     rt: &R,
     alloc: Global,
+    words: &MigrationWords<'_>,
     old: R::File,
     geometry: &Geometry,
     beside: &str,
-    new: &str,
     progress: &mut P,
-) -> Result<(), Ending>
-    ensures fault { IfErr result StopsMigration }
+) -> Result<(), Stop>
+    ensures fault { IfErr result (Ends StopsMigration) }
 {
-    let Ok(file) = File::create_new(rt, beside) else {
-        return Err(Ending::OutputFailed);
+    let file = match File::create_new(rt, beside) {
+        Ok(file) => file,
+        Err(error) => return Err(not_written(alloc, beside, error)),
     };
-    let copied = copy_pages(alloc, old, file, geometry, progress);
+    let copied = copy_pages(alloc, words, beside, old, file, geometry, progress);
     let made = match copied {
-        Ok(()) => fs::rename(rt, beside, new).map_err(|_| Ending::OutputFailed),
-        Err(ending) => Err(ending),
+        Ok(()) => match fs::rename(rt, beside, words.new) {
+            Ok(()) => Ok(()),
+            Err(error) => Err(not_written(alloc, words.new, error)),
+        },
+        Err(stop) => Err(stop),
     };
     if made.is_err() {
         let _ = fs::remove_file(rt, beside);
@@ -105,22 +179,34 @@ fn open_old<R: Files>(
     rt: &R,
     alloc: Global,
     words: &MigrationWords<'_>,
-) -> Result<(R::File, Geometry), Ending>
+) -> Result<(R::File, Geometry), Stop>
     requires possible { IsMigratable (migration_of words.now) }
-    ensures fault { IfErr result StopsMigration }
+    ensures fault { IfErr result (Ends StopsMigration) }
 {
-    let Ok(file) = fs::open(rt, words.old) else {
-        return Err(Ending::PageFileNotOpened);
+    let file = match fs::open(rt, words.old) {
+        Ok(file) => file,
+        Err(error) => return Err(not_read(alloc, words.old, error)),
     };
-    let Ok(metadata) = file.metadata() else {
-        return Err(Ending::PageFileNotOpened);
+    let metadata = match file.metadata() {
+        Ok(metadata) => metadata,
+        Err(error) => return Err(not_read(alloc, words.old, error)),
     };
     if words.old == words.new || FileId::at(rt, words.new) == Some(FileId::with(&metadata)) {
         return Err(words_refused(alloc, "error: OLD and NEW are one file"));
     }
     match geometry_of_file(metadata.len(), words.page_size, Format::Plain) {
         Ok(geometry) => Ok((file, geometry)),
-        Err(refusal) => Err(Ending::PageFileRefused(refusal)),
+        Err(refusal) => {
+            let why = PageFileReason::BadLength {
+                path: words.old,
+                bytes: metadata.len(),
+                slot: words.page_size,
+            };
+            Err(Stop {
+                ending: Ending::PageFileRefused(refusal),
+                reason: Reason::of(alloc, &why),
+            })
+        }
     }
 }
 
@@ -137,9 +223,9 @@ pub(crate) fn migrate<R: Files, E: Write>(
     words: &MigrationWords<'_>,
     is_watched: bool,
     err: &mut E,
-) -> Result<(), Ending>
+) -> Result<(), Stop>
     requires possible { IsMigratable (migration_of words.now) }
-    ensures fault { IfErr result StopsMigration }
+    ensures fault { IfErr result (Ends StopsMigration) }
     ensures err_kept { is_watched ≡ false → err.new ≡ err.old }
 {
     let (old, geometry) = open_old(rt, alloc, words)?;
@@ -148,22 +234,15 @@ pub(crate) fn migrate<R: Files, E: Write>(
         return Err(words_refused(alloc, "error: NEW is no regular file"));
     }
     let Ok(beside) = format!(in alloc; "{new}.migrating") else {
-        return Err(Ending::PageFileRefused(Refusal::OutOfMemory));
+        return Err(no_memory());
     };
+    let beside = beside.as_str();
     if is_watched {
         let mut meter = Meter::new(err);
-        let made = make_file(rt, alloc, old, &geometry, beside.as_str(), new, &mut meter);
+        let made = make_file(rt, alloc, words, old, &geometry, beside, &mut meter);
         clear_line(err);
         made
     } else {
-        make_file(
-            rt,
-            alloc,
-            old,
-            &geometry,
-            beside.as_str(),
-            new,
-            &mut Unwatched,
-        )
+        make_file(rt, alloc, words, old, &geometry, beside, &mut Unwatched)
     }
 }

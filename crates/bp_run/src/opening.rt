@@ -1,4 +1,5 @@
 //! `Ports`, by which a run opens page files and traces and saves pictures.
+use bp_cli::Reason;
 use bp_page::{Format, Geometry};
 use bp_ports::{OpenFault, Port};
 use std::io;
@@ -74,6 +75,9 @@ pub trait Ports<R> {
     /// that `trace` opened last, which is then unchanged.
     fn save(&mut self, rt: &R, path: &str, bytes: &[u8]) -> io::Result<()>
         ensures { ways.saves path.now bytes.now (is_ok result) };
+
+    /// Returns why the last call of these that failed did so, and forgets it.
+    fn reason(&mut self) -> Reason;
 
     /// Returns true if the progress of a migration or a sweep is to be shown on the error output.
     fn is_watched(&self) -> bool

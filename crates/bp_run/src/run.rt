@@ -1,34 +1,36 @@
 //! `run_with`, the whole program: it runs the rows of a trace over a new core and a page file, and reports, or does
 //! another task of its words.
-ghost use Rattle.std.specs.Prelude.{◌≡◌, ◌≢◌, ◌⊎◌, ◌++◌, ◌<◌, ◌≤◌, All, IfErr, IfOk, OnOk, [], if◌then◌else◌, vec_len};
+ghost use Rattle.std.specs.Prelude.{◌≡◌, ◌≢◌, ◌⊎◌, ◌++◌, ◌<◌, ◌≤◌, All, IfErr, IfOk, OnOk, [], if◌then◌else◌, vec_len, Ok, Err};
 ghost use Rattle.std.specs.Io.KnownBytes.{Appends};
 ghost use Rattle.clap.specs.Walk.{texts};
 ghost use Rattle.bp_trail.specs.Fits.{RowFits};
 ghost use Rattle.bp_trace.specs.InRange.{IsInRange};
 ghost use Rattle.bp_trace.specs.Report.{rows_text};
-ghost use Rattle.bp_cli.specs.Decision.{AsksForAnswer, AsksForHelp, AsksForVersion, IsRunnable};
+ghost use Rattle.bp_cli.specs.Decision.{AsksForAnswer, AsksForHelp, AsksForVersion, IsDecision, IsRunnable};
 ghost use Rattle.bp_cli.specs.Ending.{message_of};
 ghost use Rattle.bp_cli.specs.Words.{options_of, trace_given, words_or_default};
-ghost use Rattle.bp_run.specs.Opening.{ending_of};
+ghost use Rattle.bp_run.specs.Opening.{Ends, ending_of};
 ghost use Rattle.bp_run.specs.PageFile.{IsNamed};
 ghost use Rattle.bp_run.specs.Run.{AreRead, AreRowsOf, Reports, ReportsIn, Runs, DoesWords};
 ghost use Rattle.bp_run.specs.Run.{parameters_for, ports_for, report_of, room_for};
 ghost use Rattle.bp_run.specs.Stops.{Ended, EndsBy, HasNoRows, IsShown, NotConnected, NotOpened};
 ghost use Rattle.bp_run.specs.Stops.{NotRead, NotReported, Prints, StopsRun};
 
+use crate::endings::{STANDARD_INPUT, output_failed, trace_refused};
 use crate::explaining::explain;
 use crate::free::run_free;
 use crate::migration::migrate;
+use crate::noted::Noted;
 use crate::opening::Ports;
 use crate::scripts::client_count;
 use crate::sweeping::sweep_as_asked;
-use bp_cli::{Ending, Order, RunWords, Task, TraceSource, decide};
+use bp_cli::{Ending, Order, Reason, RunWords, Stop, Task, TraceSource, decide};
 use bp_core::config::MAX_CLIENTS;
 use bp_core::{Core, Entry, Keeper, RecordingKeeper, Refused, Row, Settings};
 use bp_device::drive_all;
 use bp_page::{Geometry, PortFault, Refusal};
 use bp_ports::{OpenFault, Port};
-use bp_trace::{read_script, report, report_rows, report_totals};
+use bp_trace::{read_script_into, report, report_rows, report_totals};
 use std::alloc::Global;
 use std::io;
 use std::io::{Read, Write};
@@ -71,24 +73,36 @@ fn print_report<W: Write>(totals: bool, entries: &[Entry], out: &mut W) -> io::R
     }
 }
 
-/// Writes the report of the entries, or only its totals, and then the refused rows.
-pub(crate) fn print_run<W: Write>(
+fn print_whole<W: Write>(
     totals: bool,
     entries: &[Entry],
     refused: &[Refused],
     out: &mut W,
-) -> Result<(), Ending>
+) -> io::Result<()>
+    ensures { OnOk result (Appends (W.contents out.old) (W.contents out.new)
+        (report_of totals entries.now ++ rows_text refused.now)) }
+{
+    print_report(totals, entries, out)?;
+    report_rows(refused, out)?;
+    out.flush()
+}
+
+/// Writes the report of the entries, or only its totals, and then the refused rows.
+pub(crate) fn print_run<W: Write>(
+    alloc: Global,
+    totals: bool,
+    entries: &[Entry],
+    refused: &[Refused],
+    out: &mut W,
+) -> Result<(), Stop>
     ensures written { OnOk result (Appends (W.contents out.old) (W.contents out.new)
         (report_of totals entries.now ++ rows_text refused.now)) }
-    ensures fault { IfErr result (λ ended. ended ≡ Ending.OutputFailed) }
+    ensures fault { IfErr result (λ stop. stop.ending ≡ Ending.OutputFailed) }
 {
-    if print_report(totals, entries, out).is_err()
-        || report_rows(refused, out).is_err()
-        || out.flush().is_err()
-    {
-        return Err(Ending::OutputFailed);
+    match print_whole(totals, entries, refused, out) {
+        Ok(()) => Ok(()),
+        Err(error) => Err(output_failed(alloc, error)),
     }
-    Ok(())
 }
 
 /// Makes a core for these rows in the order of the trace.
@@ -97,11 +111,12 @@ fn new_core(
     run: &RunWords<'_>,
     geometry: Geometry,
     rows: &[Row],
-) -> Result<Core, Ending>
+) -> Result<Core, Stop>
     requires runnable { IsRunnable (options_of run.now) }
     ensures made { IfOk result (λ core. (core.parameters ≡ parameters_for Order.Trace
         (options_of run.now) geometry rows.now) × (core.before ≡ []) × (core.past ≡ [])) }
-    ensures fault { IfErr result (λ ended. ended ≡ Ending.RunRefused Refusal.OutOfMemory) }
+    ensures fault { IfErr result (λ stop.
+        stop.ending ≡ Ending.RunRefused Refusal.OutOfMemory) }
 {
     let settings = Settings::new(run.k, run.correlated, run.retained).unwrap();
     match Core::new(
@@ -113,7 +128,7 @@ fn new_core(
         room_for(Order::Trace, rows.len()),
     ) {
         Ok(core) => Ok(core),
-        Err(refusal) => Err(Ending::RunRefused(refusal)),
+        Err(refusal) => Err(Stop::from(Ending::RunRefused(refusal))),
     }
 }
 
@@ -127,20 +142,21 @@ fn drive_rows<P: Port, R: Wait, W: Write>(
     totals: bool,
     rows: &[Row],
     out: &mut W,
-) -> Result<bool, Ending>
+) -> Result<bool, Stop>
     requires new { (core.old.before ≡ []) × (core.old.past ≡ []) }
     requires size { (P.geometry_of port.old).size ≡ core.old.parameters.size }
     requires fits { All (RowFits core.old.parameters) rows.now }
     ensures reported { IfOk result (λ ok. Reports P.read_gives P.write_gives totals
         core.old.parameters port.old rows.now ok (W.contents out.old) (W.contents out.new)) }
-    ensures fault { IfErr result (NotReported Order.Trace) }
-    ensures kept { IfErr result (λ ended. ended ≢ Ending.OutputFailed → out.new ≡ out.old) }
+    ensures fault { IfErr result (Ends (NotReported Order.Trace)) }
+    ensures kept { IfErr result (λ stop. stop.ending ≢ Ending.OutputFailed
+        → out.new ≡ out.old) }
 {
     let refused = match drive_all(rt, alloc, core, port, rows) {
         Ok(refused) => refused,
-        Err(refusal) => return Err(Ending::RunRefused(refusal)),
+        Err(refusal) => return Err(Stop::from(Ending::RunRefused(refusal))),
     };
-    print_run(totals, core.trail(), &refused, out)?;
+    print_run(alloc, totals, core.trail(), &refused, out)?;
     Ok(refused.is_empty())
 }
 
@@ -153,14 +169,15 @@ fn run_rows<P: Port, R: Wait, W: Write>(
     port: &mut P,
     rows: &[Row],
     out: &mut W,
-) -> Result<bool, Ending>
+) -> Result<bool, Stop>
     requires runnable { IsRunnable (options_of run.now) }
     requires fits { All (IsInRange (P.geometry_of port.old)) rows.now }
     ensures reported { IfOk result (λ ok. Reports P.read_gives P.write_gives run.now.totals
         (parameters_for Order.Trace (options_of run.now) (P.geometry_of port.old) rows.now)
         port.old rows.now ok (W.contents out.old) (W.contents out.new)) }
-    ensures fault { IfErr result (NotReported Order.Trace) }
-    ensures kept { IfErr result (λ ended. ended ≢ Ending.OutputFailed → out.new ≡ out.old) }
+    ensures fault { IfErr result (Ends (NotReported Order.Trace)) }
+    ensures kept { IfErr result (λ stop. stop.ending ≢ Ending.OutputFailed
+        → out.new ≡ out.old) }
 {
     let mut core = new_core(alloc, run, port.geometry(), rows)?;
     let driven = drive_rows(rt, alloc, &mut core, port, run.totals, rows, out);
@@ -170,17 +187,23 @@ fn run_rows<P: Port, R: Wait, W: Write>(
 
 fn rows_from<I: Read>(
     alloc: Global,
+    source: &str,
     reader: &mut I,
     geometry: &Geometry,
-) -> Result<Vec<Row>, Ending>
+) -> Result<Vec<Row>, Stop>
     ensures read { IfOk result (λ rows. AreRowsOf geometry.now
         (I.remaining reader.old) rows.items) }
     ensures fits { IfOk result (λ rows. All (IsInRange geometry.now) rows.items) }
-    ensures fault { IfErr result (HasNoRows geometry.now (I.remaining reader.old)) }
+    ensures fault { IfErr result (Ends (HasNoRows geometry.now (I.remaining reader.old))) }
 {
-    match read_script(alloc, reader, geometry) {
+    let mut noted = Noted::new(reader);
+    let mut text = Vec::new(alloc);
+    match read_script_into(alloc, &mut noted, geometry, &mut text) {
         Ok(rows) => Ok(rows),
-        Err(fault) => Err(Ending::TraceRefused(fault)),
+        Err(fault) => {
+            let error = noted.error();
+            Err(trace_refused(alloc, source, &text, geometry, fault, error))
+        }
     }
 }
 
@@ -192,20 +215,23 @@ fn rows_of<I: Read, R, O: Ports<R>>(
     reader: &mut I,
     ports: &mut O,
     geometry: &Geometry,
-) -> Result<Vec<Row>, Ending>
+) -> Result<Vec<Row>, Stop>
     ensures read { IfOk result (λ rows. AreRead O.ways.traces O.T.remaining
         (trace_given trace.entry) geometry.now (I.remaining reader.old) rows.items) }
     ensures fits { IfOk result (λ rows. All (IsInRange geometry.now) rows.items) }
-    ensures fault { IfErr result (NotRead O.ways.traces O.T.remaining
-        (trace_given trace.entry) geometry.now (I.remaining reader.old)) }
+    ensures fault { IfErr result (Ends (NotRead O.ways.traces O.T.remaining
+        (trace_given trace.entry) geometry.now (I.remaining reader.old))) }
 {
     match trace {
-        TraceSource::Stdin => rows_from(alloc, reader, geometry),
+        TraceSource::Stdin => rows_from(alloc, STANDARD_INPUT, reader, geometry),
         TraceSource::Path(path) => {
             let Some(mut file) = ports.trace(rt, path) else {
-                return Err(Ending::TraceNotOpened);
+                return Err(Stop {
+                    ending: Ending::TraceNotOpened,
+                    reason: ports.reason(),
+                });
             };
-            rows_from(alloc, &mut file, geometry)
+            rows_from(alloc, path, &mut file, geometry)
         }
     }
 }
@@ -222,17 +248,20 @@ fn ending_of(fault: OpenFault) -> Ending
     }
 }
 
-fn open_file<R, O: Ports<R>>(rt: &R, ports: &mut O, run: &RunWords<'_>) -> Result<O::F, Ending>
+fn open_file<R, O: Ports<R>>(rt: &R, ports: &mut O, run: &RunWords<'_>) -> Result<O::F, Stop>
     requires runnable { IsRunnable (options_of run.now) }
     ensures gave { IfOk result (λ file. O.ways.opens run.now.page_file.now run.now.page_size
         run.now.format (Ok file)) }
     ensures named { IfOk result (λ file. IsNamed run.now.page_file.now run.now.page_size
         run.now.format (O.ways.memory file) (O.ways.geometry file) (O.ways.headed file)) }
-    ensures fault { IfErr result (NotOpened O.ways (options_of run.now)) }
+    ensures fault { IfErr result (Ends (NotOpened O.ways (options_of run.now))) }
 {
     match ports.open(rt, run.page_file, run.page_size, run.format) {
         Ok(file) => Ok(file),
-        Err(fault) => Err(ending_of(fault)),
+        Err(fault) => Err(Stop {
+            ending: ending_of(fault),
+            reason: ports.reason(),
+        }),
     }
 }
 
@@ -243,18 +272,21 @@ fn connect<R, O: Ports<R>>(
     order: Order,
     file: O::F,
     rows: &[Row],
-) -> Result<Vec<O::P>, Ending>
+) -> Result<Vec<O::P>, Stop>
     ensures gave { IfOk result (λ opened. O.ways.connects file (ports_for order rows.now)
         (Ok opened)) }
     ensures count { IfOk result (λ opened. vec_len opened ≡ ports_for order rows.now) }
     ensures alike { IfOk result (λ opened. All (λ p.
         O.P.geometry_of p ≡ O.ways.geometry file) opened.items) }
-    ensures fault { IfErr result (NotConnected O.ways file (ports_for order rows.now)) }
+    ensures fault { IfErr result (Ends (NotConnected O.ways file (ports_for order rows.now))) }
 {
     let clients = ports_for(order, rows);
     match ports.connect(rt, file, clients) {
         Ok(opened) => Ok(opened),
-        Err(fault) => Err(ending_of(fault)),
+        Err(fault) => Err(Stop {
+            ending: ending_of(fault),
+            reason: ports.reason(),
+        }),
     }
 }
 
@@ -268,7 +300,7 @@ fn run_in_order<P: Port + Send, R: Threads + Wait + Sync, W: Write>(
     geometry: Geometry,
     rows: Vec<Row>,
     out: &mut W,
-) -> Result<bool, Ending>
+) -> Result<bool, Stop>
     requires runnable { IsRunnable (options_of run.now) }
     requires ports { vec_len ports ≡ ports_for run.now.order rows.items }
     requires alike { All (λ p. P.geometry_of p ≡ geometry) ports.items }
@@ -276,8 +308,9 @@ fn run_in_order<P: Port + Send, R: Threads + Wait + Sync, W: Write>(
     ensures reported { IfOk result (λ ok. ReportsIn P.read_gives P.write_gives run.now.order
         run.now.totals (parameters_for run.now.order (options_of run.now) geometry rows.items)
         ports.items rows.items ok (W.contents out.old) (W.contents out.new)) }
-    ensures fault { IfErr result (NotReported run.now.order) }
-    ensures kept { IfErr result (λ ended. ended ≢ Ending.OutputFailed → out.new ≡ out.old) }
+    ensures fault { IfErr result (Ends (NotReported run.now.order)) }
+    ensures kept { IfErr result (λ stop. stop.ending ≢ Ending.OutputFailed
+        → out.new ≡ out.old) }
 {
     let mut ports = ports;
     match run.order {
@@ -297,19 +330,35 @@ fn run_as_asked<R: Threads + Wait + Sync, I: Read, O: Ports<R>, W: Write>(
     reader: &mut I,
     ports: &mut O,
     out: &mut W,
-) -> Result<bool, Ending>
+) -> Result<bool, Stop>
     requires runnable { IsRunnable (options_of run.now) }
     ensures ran { IfOk result (λ ok. Runs O.ways O.T.remaining O.P.read_gives O.P.write_gives
         (options_of run.now) (I.remaining reader.old) ok (W.contents out.old) (W.contents out.new)) }
-    ensures stopped { IfErr result (StopsRun O.ways O.T.remaining (options_of run.now)
-        (I.remaining reader.old)) }
-    ensures kept { IfErr result (λ ended. ended ≢ Ending.OutputFailed → out.new ≡ out.old) }
+    ensures stopped { IfErr result (Ends (StopsRun O.ways O.T.remaining (options_of run.now)
+        (I.remaining reader.old))) }
+    ensures kept { IfErr result (λ stop. stop.ending ≢ Ending.OutputFailed
+        → out.new ≡ out.old) }
 {
     let file = open_file(rt, ports, run)?;
     let geometry = ports.geometry(&file);
     let rows = rows_of(rt, alloc, run.trace, reader, ports, &geometry)?;
     let opened = connect(rt, ports, run.order, file, &rows)?;
     run_in_order(rt, alloc, run, opened, geometry, rows, out)
+}
+
+/// Decides by the words what is to be done, or how the program ends otherwise.
+fn task_of<'a>(alloc: Global, words: &'a [&'a str]) -> Result<Task<'a>, Stop>
+    ensures task { IfOk result (λ task. IsDecision (words_or_default (texts words.now)) (Ok task)) }
+    ensures fault { IfErr result (λ stop.
+        IsDecision (words_or_default (texts words.now)) (Err stop.ending)) }
+{
+    match decide(alloc, words) {
+        Ok(task) => Ok(task),
+        Err(ending) => Err(Stop {
+            ending,
+            reason: Reason::Unsaid,
+        }),
+    }
 }
 
 fn status_of_run(all_accepted: bool) -> u8
@@ -339,20 +388,20 @@ pub fn carry_out<
     ports: &mut O,
     out: &mut W,
     err: &mut E,
-) -> Result<u8, Ending>
+) -> Result<u8, Stop>
     ensures done { IfOk result (λ status. DoesWords O.ways O.T.remaining O.P.read_gives
         O.P.write_gives (words_or_default (texts words.entry.now)) (I.remaining reader.old) status
         (W.contents out.old) (W.contents out.new)) }
-    ensures ended { IfErr result (EndsBy O.ways O.T.remaining
+    ensures ended { IfErr result (Ends (EndsBy O.ways O.T.remaining
         (words_or_default (texts words.entry.now)) (I.remaining reader.old)
-        (W.contents out.old) (W.contents out.new)) }
-    ensures out_kept { IfErr result (λ ended. ended ≢ Ending.OutputFailed
-        → ended ≢ Ending.PictureNotWritten → out.new ≡ out.old) }
+        (W.contents out.old) (W.contents out.new))) }
+    ensures out_kept { IfErr result (λ stop. stop.ending ≢ Ending.OutputFailed
+        → stop.ending ≢ Ending.PictureNotWritten → out.new ≡ out.old) }
     ensures err_kept { IsShown (O.watched ports.old) (words_or_default (texts words.entry.now))
         ⊎ (err.new ≡ err.old) }
     ensures status { IfOk result (λ status. status < 2) }
 {
-    match decide(alloc, words)? {
+    match task_of(alloc, words)? {
         Task::Run(run) => {
             let all_accepted = run_as_asked(rt, alloc, &run, reader, ports, out)?;
             Ok(status_of_run(all_accepted))
@@ -366,7 +415,7 @@ pub fn carry_out<
             Ok(0)
         }
         Task::Explain(text) => {
-            explain(text, out)?;
+            explain(alloc, text, out)?;
             Ok(0)
         }
     }
@@ -384,9 +433,10 @@ pub fn carry_out<
 ///
 /// Status 0: help, the version, an explanation, a table, a migration, or a run without refused rows. Status 1: a run
 /// with refused rows. Their report, and then the refused rows, are in `out`; `err` is unchanged, except for the
-/// progress of a watched migration or sweep. Status 2: one line in `err` says why there is no report, no table or no
-/// new page file; `out` is unchanged, except where the line is `output failed`, which comes after whatever was written,
-/// or `picture not written`, which comes after the whole table.
+/// progress of a watched migration or sweep. Status 2: there is no report, no table or no new page file. A line in
+/// `err` says what failed, and one after it the reason, where it is known; neither does where the reader of `out` has
+/// gone. `out` is unchanged, except where the first line is `output failed`, which comes after whatever was written, or
+/// `picture not written`, which comes after the whole table.
 pub fn run_with<R: Files + Clock + Threads + Wait + Sync, I: Read, O: Ports<R>, W: Write, E: Write>(
     rt: &R,
     alloc: Global,
@@ -415,6 +465,6 @@ pub fn run_with<R: Files + Clock + Threads + Wait + Sync, I: Read, O: Ports<R>, 
 {
     match carry_out(rt, alloc, words, reader, ports, out, err) {
         Ok(status) => status,
-        Err(ending) => ending.finish(out, err),
+        Err(stop) => stop.finish(out, err),
     }
 }

@@ -7,15 +7,18 @@ ghost use Rattle.bp_sweep.specs.Sweeping.{AreCells};
 ghost use Rattle.bp_cli.specs.Asked.{IsColumn, SweepsInLimits, sweep_of};
 ghost use Rattle.bp_cli.specs.Words.{trace_given};
 ghost use Rattle.bp_run.specs.Drawing.{IsDrawn};
+ghost use Rattle.bp_run.specs.Opening.{Ends};
 ghost use Rattle.bp_run.specs.Sweep.{AreReferencesOf, AreTaken, HasNoReferences, NotCounted, NotShown};
 ghost use Rattle.bp_run.specs.Sweep.{NotTaken, NotWritten, Shows, StopsSweep, Sweeps};
-ghost use Rattle.bp_run.specs.Sweep.{no_references, plans_given};
+ghost use Rattle.bp_run.specs.Sweep.{plans_given};
 
 use crate::drawing::picture_of;
+use crate::endings::{ListSource, STANDARD_INPUT, output_failed, references_refused};
 use crate::meter::{SweepMeter, clear_line};
+use crate::noted::Noted;
 use crate::opening::Ports;
 use bp_charts::{Line, write_table};
-use bp_cli::{Ending, SweepWords, TraceSource};
+use bp_cli::{Ending, Reason, Stop, SweepWords, SystemFault, TraceSource};
 use bp_page::Refusal;
 use bp_sweep::{
     Progress, ReferenceFault, References, Unwatched, count_cells, plans_of, read_column,
@@ -23,50 +26,55 @@ use bp_sweep::{
 };
 use bp_trace::InputFault;
 use std::alloc::Global;
+use std::io;
 use std::io::{BufReader, Read, Write};
 use std::sync::Wait;
 use std::time::Clock;
 
-/// Returns the end of the program for a list that could not be read.
-fn no_references(fault: ReferenceFault) -> Ending
-    ensures { result ≡ no_references fault }
-{
-    Ending::ReferenceRefused {
-        line: fault.line,
-        why: fault.why,
-    }
-}
-
 /// Reads the references of a list with one number a line.
-fn references_in_lines<I: Read>(alloc: Global, reader: &mut I) -> Result<References, Ending>
+fn references_in_lines<I: Read>(
+    alloc: Global,
+    name: &str,
+    reader: &mut I,
+) -> Result<References, Stop>
     ensures read { IfOk result (AreReferencesOf None (I.remaining reader.old)) }
-    ensures fault { IfErr result (HasNoReferences None (I.remaining reader.old)) }
+    ensures fault { IfErr result (Ends (HasNoReferences None (I.remaining reader.old))) }
 {
-    let Ok(mut lines) = BufReader::new(alloc, reader) else {
-        return Err(no_references(ReferenceFault::new(0, InputFault::OutOfMemory)));
+    let source = ListSource { name, column: None };
+    let Ok(mut lines) = BufReader::new(alloc, Noted::new(reader)) else {
+        let fault = ReferenceFault::new(0, InputFault::OutOfMemory);
+        return Err(references_refused(alloc, source, fault, None));
     };
     match read_references(alloc, &mut lines) {
         Ok(references) => Ok(references),
-        Err(fault) => Err(no_references(fault)),
+        Err(fault) => {
+            let error = lines.get_ref().error();
+            Err(references_refused(alloc, source, fault, error))
+        }
     }
 }
 
 /// Reads the references of a list: of its lines, or of a column where it is CSV.
 fn references_from<I: Read>(
     alloc: Global,
+    name: &str,
     column: Option<usize>,
     reader: &mut I,
-) -> Result<References, Ending>
+) -> Result<References, Stop>
     requires few { IfSome column IsColumn }
     ensures read { IfOk result (AreReferencesOf column (I.remaining reader.old)) }
-    ensures fault { IfErr result (HasNoReferences column (I.remaining reader.old)) }
+    ensures fault { IfErr result (Ends (HasNoReferences column (I.remaining reader.old))) }
 {
-    let Some(column) = column else {
-        return references_in_lines(alloc, reader);
+    let Some(field) = column else {
+        return references_in_lines(alloc, name, reader);
     };
-    match read_column(alloc, reader, column as u32) {
+    let mut noted = Noted::new(reader);
+    match read_column(alloc, &mut noted, field as u32) {
         Ok(references) => Ok(references),
-        Err(fault) => Err(no_references(fault)),
+        Err(fault) => {
+            let error = noted.error();
+            Err(references_refused(alloc, ListSource { name, column }, fault, error))
+        }
     }
 }
 
@@ -77,20 +85,23 @@ fn references_of<I: Read, R, O: Ports<R>>(
     words: &SweepWords<'_>,
     reader: &mut I,
     ports: &mut O,
-) -> Result<References, Ending>
+) -> Result<References, Stop>
     requires possible { SweepsInLimits (sweep_of words.now) }
     ensures taken { IfOk result (AreTaken O.ways.traces O.T.remaining
         (trace_given words.now.references) words.now.column (I.remaining reader.old)) }
-    ensures fault { IfErr result (NotTaken O.ways.traces O.T.remaining
-        (trace_given words.now.references) words.now.column (I.remaining reader.old)) }
+    ensures fault { IfErr result (Ends (NotTaken O.ways.traces O.T.remaining
+        (trace_given words.now.references) words.now.column (I.remaining reader.old))) }
 {
     match words.references {
-        TraceSource::Stdin => references_from(alloc, words.column, reader),
+        TraceSource::Stdin => references_from(alloc, STANDARD_INPUT, words.column, reader),
         TraceSource::Path(path) => {
             let Some(mut file) = ports.trace(rt, path) else {
-                return Err(Ending::ReferencesNotOpened);
+                return Err(Stop {
+                    ending: Ending::ReferencesNotOpened,
+                    reason: ports.reason(),
+                });
             };
-            references_from(alloc, words.column, &mut file)
+            references_from(alloc, path, words.column, &mut file)
         }
     }
 }
@@ -102,17 +113,20 @@ fn count<R: Wait, G: Progress>(
     words: &SweepWords<'_>,
     references: &References,
     progress: &mut G,
-) -> Result<Vec<Line>, Ending>
+) -> Result<Vec<Line>, Stop>
     ensures cells { IfOk result (λ lines. AreCells references.now
         (plans_given (sweep_of words.now)) lines.items) }
-    ensures fault { IfErr result (NotCounted (sweep_of words.now) references.now) }
+    ensures fault { IfErr result (Ends (NotCounted (sweep_of words.now) references.now)) }
 {
     let Ok(plans) = plans_of(alloc, &words.frames, &words.ks, words.correlated) else {
-        return Err(Ending::RunRefused(Refusal::OutOfMemory));
+        return Err(Stop::from(Ending::RunRefused(Refusal::OutOfMemory)));
     };
     match count_cells(rt, alloc, references, &plans, progress) {
         Ok(lines) => Ok(lines),
-        Err(fault) => Err(Ending::RunRefused(fault.refusal)),
+        Err(fault) => Err(Stop {
+            ending: Ending::RunRefused(fault.refusal),
+            reason: Reason::Unsaid,
+        }),
     }
 }
 
@@ -124,10 +138,10 @@ fn count_watched<R: Wait + Clock, E: Write>(
     references: &References,
     is_watched: bool,
     err: &mut E,
-) -> Result<Vec<Line>, Ending>
+) -> Result<Vec<Line>, Stop>
     ensures cells { IfOk result (λ lines. AreCells references.now
         (plans_given (sweep_of words.now)) lines.items) }
-    ensures fault { IfErr result (NotCounted (sweep_of words.now) references.now) }
+    ensures fault { IfErr result (Ends (NotCounted (sweep_of words.now) references.now)) }
     ensures err_kept { is_watched ≡ false → err.new ≡ err.old }
 {
     if is_watched {
@@ -140,25 +154,42 @@ fn count_watched<R: Wait + Clock, E: Write>(
     }
 }
 
-fn print_table<W: Write>(lines: &[Line], out: &mut W) -> Result<(), Ending>
-    ensures written { OnOk result (Appends (W.contents out.old) (W.contents out.new)
+fn write_whole<W: Write>(lines: &[Line], out: &mut W) -> io::Result<()>
+    ensures { OnOk result (Appends (W.contents out.old) (W.contents out.new)
         (table_text lines.now)) }
-    ensures fault { IfErr result (λ ended. ended ≡ Ending.OutputFailed) }
 {
-    if write_table(lines, out).is_err() || out.flush().is_err() {
-        return Err(Ending::OutputFailed);
-    }
-    Ok(())
+    write_table(lines, out)?;
+    out.flush()
 }
 
-fn save<R, O: Ports<R>>(rt: &R, path: &str, bytes: &[u8], ports: &mut O) -> Result<(), Ending>
+fn print_table<W: Write>(alloc: Global, lines: &[Line], out: &mut W) -> Result<(), Stop>
+    ensures written { OnOk result (Appends (W.contents out.old) (W.contents out.new)
+        (table_text lines.now)) }
+    ensures fault { IfErr result (λ stop. stop.ending ≡ Ending.OutputFailed) }
+{
+    match write_whole(lines, out) {
+        Ok(()) => Ok(()),
+        Err(error) => Err(output_failed(alloc, error)),
+    }
+}
+
+fn save<R, O: Ports<R>>(
+    rt: &R,
+    alloc: Global,
+    path: &str,
+    bytes: &[u8],
+    ports: &mut O,
+) -> Result<(), Stop>
     ensures saved { OnOk result (O.ways.saves path.now bytes.now true) }
     ensures failed { OnErr result (O.ways.saves path.now bytes.now false) }
-    ensures fault { IfErr result (λ ended. ended ≡ Ending.PictureNotWritten) }
+    ensures fault { IfErr result (λ stop. stop.ending ≡ Ending.PictureNotWritten) }
 {
     match ports.save(rt, path, bytes) {
         Ok(()) => Ok(()),
-        Err(_) => Err(Ending::PictureNotWritten),
+        Err(error) => {
+            let fault = SystemFault { name: path, error };
+            Err(Stop::because(alloc, Ending::PictureNotWritten, &fault))
+        }
     }
 }
 
@@ -171,24 +202,24 @@ fn write_lines<R, O: Ports<R>, W: Write>(
     lines: &[Line],
     ports: &mut O,
     out: &mut W,
-) -> Result<(), Ending>
+) -> Result<(), Stop>
     ensures written { OnOk result (Appends (W.contents out.old) (W.contents out.new)
         (table_text lines.now)) }
     ensures drawn { OnOk result (IsDrawn O.ways.saves (sweep_of words.now).svg
         (sweep_of words.now).ks lines.now) }
-    ensures fault { IfErr result (NotWritten O.ways.saves (sweep_of words.now) lines.now
-        (W.contents out.old) (W.contents out.new)) }
-    ensures kept { IfErr result (λ ended. ended ≢ Ending.OutputFailed
-        → ended ≢ Ending.PictureNotWritten → out.new ≡ out.old) }
+    ensures fault { IfErr result (Ends (NotWritten O.ways.saves (sweep_of words.now) lines.now
+        (W.contents out.old) (W.contents out.new))) }
+    ensures kept { IfErr result (λ stop. stop.ending ≢ Ending.OutputFailed
+        → stop.ending ≢ Ending.PictureNotWritten → out.new ≡ out.old) }
 {
     let Some(path) = words.svg else {
-        return print_table(lines, out);
+        return print_table(alloc, lines, out);
     };
     let Ok(picture) = picture_of(alloc, &words.ks, lines) else {
-        return Err(Ending::RunRefused(Refusal::OutOfMemory));
+        return Err(Stop::from(Ending::RunRefused(Refusal::OutOfMemory)));
     };
-    print_table(lines, out)?;
-    save(rt, path, &picture, ports)
+    print_table(alloc, lines, out)?;
+    save(rt, alloc, path, &picture, ports)
 }
 
 /// Counts the cells, and writes the table and the picture once all are counted.
@@ -201,13 +232,13 @@ fn show<R: Wait + Clock, O: Ports<R>, W: Write, E: Write>(
     ports: &mut O,
     out: &mut W,
     err: &mut E,
-) -> Result<(), Ending>
+) -> Result<(), Stop>
     ensures shown { OnOk result (Shows O.ways.saves (sweep_of words.now) references.now
         (W.contents out.old) (W.contents out.new)) }
-    ensures fault { IfErr result (NotShown O.ways.saves (sweep_of words.now) references.now
-        (W.contents out.old) (W.contents out.new)) }
-    ensures kept { IfErr result (λ ended. ended ≢ Ending.OutputFailed
-        → ended ≢ Ending.PictureNotWritten → out.new ≡ out.old) }
+    ensures fault { IfErr result (Ends (NotShown O.ways.saves (sweep_of words.now) references.now
+        (W.contents out.old) (W.contents out.new))) }
+    ensures kept { IfErr result (λ stop. stop.ending ≢ Ending.OutputFailed
+        → stop.ending ≢ Ending.PictureNotWritten → out.new ≡ out.old) }
     ensures err_kept { is_watched ≡ false → err.new ≡ err.old }
 {
     let lines = count_watched(rt, alloc, words, references, is_watched, err)?;
@@ -228,14 +259,14 @@ pub(crate) fn sweep_as_asked<R: Wait + Clock, I: Read, O: Ports<R>, W: Write, E:
     ports: &mut O,
     out: &mut W,
     err: &mut E,
-) -> Result<(), Ending>
+) -> Result<(), Stop>
     requires possible { SweepsInLimits (sweep_of words.now) }
     ensures swept { OnOk result (Sweeps O.ways O.T.remaining (sweep_of words.now)
         (I.remaining reader.old) (W.contents out.old) (W.contents out.new)) }
-    ensures stopped { IfErr result (StopsSweep O.ways O.T.remaining (sweep_of words.now)
-        (I.remaining reader.old) (W.contents out.old) (W.contents out.new)) }
-    ensures kept { IfErr result (λ ended. ended ≢ Ending.OutputFailed
-        → ended ≢ Ending.PictureNotWritten → out.new ≡ out.old) }
+    ensures stopped { IfErr result (Ends (StopsSweep O.ways O.T.remaining (sweep_of words.now)
+        (I.remaining reader.old) (W.contents out.old) (W.contents out.new))) }
+    ensures kept { IfErr result (λ stop. stop.ending ≢ Ending.OutputFailed
+        → stop.ending ≢ Ending.PictureNotWritten → out.new ≡ out.old) }
     ensures err_kept { O.watched ports.old ≡ false → err.new ≡ err.old }
 {
     let is_watched = ports.is_watched();

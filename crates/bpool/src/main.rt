@@ -2,7 +2,7 @@
 //! many sizes to a list of references, or writes a page file again in its second version.
 #![tactic(auto)]
 
-use bp_cli::Ending;
+use bp_cli::{Ending, Stop};
 use bp_page::Refusal;
 use bp_run::{Awaiting, PageFiles, run_with};
 use std::fs::File;
@@ -74,7 +74,7 @@ fn main(rt: HostRuntime) -> ExitCode {
     };
     let status = match run {
         Ok(status) => status,
-        Err(ending) => ending.finish(&mut io::writer(&rt), &mut err),
+        Err(ending) => Stop::from(ending).finish(&mut io::writer(&rt), &mut err),
     };
     ExitCode::from(status)
 }

@@ -33,12 +33,12 @@ pub returns-in_err-rows-clause-stopped : goal.returns-in_err-rows-clause-stopped
 returns-in_err-rows-clause-stopped g c =
     let is = err_from_is_err_and c.from_residual-in_err-rows.result c.from_residual-in_err-rows.ensures.1 in
     rw (is.1 ∙ ap Err is.2)
-    (stopped_at_trace g.O.Ports.ways g.O.T.Read.remaining (options_of c.args.run.now) (g.I.Read.remaining c.args.reader.now) c.in_err-rows.field-0.0 c.in_ok-file.file c.geometry-geometry.result
+    (stopped_at_trace g.O.Ports.ways g.O.T.Read.remaining (options_of c.args.run.now) (g.I.Read.remaining c.args.reader.now) c.in_err-rows.field-0.0.ending c.in_ok-file.file c.geometry-geometry.result
     c.in_ok-file.ensures.gave c.geometry-geometry.ensures c.in_err-rows.ensures.fault)
 
 pub returns-in_err-opened-clause-stopped : goal.returns-in_err-opened-clause-stopped
 returns-in_err-opened-clause-stopped g c =
     let is = err_from_is_err_and c.from_residual-in_err-opened.result c.from_residual-in_err-opened.ensures.1 in
     rw (is.1 ∙ ap Err is.2)
-    (stopped_at_ports g.O.Ports.ways g.O.T.Read.remaining (options_of c.args.run.now) (g.I.Read.remaining c.args.reader.now) c.in_err-opened.field-0.0 c.in_ok-file.file c.geometry-geometry.result c.in_ok-rows.rows.items c.deref.result.now
+    (stopped_at_ports g.O.Ports.ways g.O.T.Read.remaining (options_of c.args.run.now) (g.I.Read.remaining c.args.reader.now) c.in_err-opened.field-0.0.ending c.in_ok-file.file c.geometry-geometry.result c.in_ok-rows.rows.items c.deref.result.now
     c.in_ok-file.ensures.gave c.geometry-geometry.ensures c.deref.ensures.value c.in_ok-rows.ensures.read c.in_err-opened.ensures.fault)

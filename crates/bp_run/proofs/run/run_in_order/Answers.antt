@@ -3,6 +3,7 @@ use Rattle.std.proofs.Common.{◌≡◌, ◌<◌, ◌∙◌, sym, ap, subst, ari
 use Rattle.std.specs.Prelude.{IfErr}
 use Rattle.bp_cli.specs.Words.{options_of}
 use Rattle.bp_cli.specs.declared.words.Order.{Order}
+use Rattle.bp_run.specs.Opening.{Ends}
 use Rattle.bp_run.specs.Run.{ports_for}
 use Rattle.bp_run.specs.Stops.{NotReported}
 use Rattle.bp_run.proofs.Opened.{in_free, in_trace, port_is, some_ports}
@@ -20,11 +21,11 @@ returns-in-Trace-clause-reported g c =
     c.args.run.now.totals c.args.rows.items c.deref.result.now _ _ c.run_rows.result c.in-Trace.is same c.deref.ensures.value count c.index_mut.ensures.value c.run_rows.ensures.reported
 
 pub returns-in-Trace-clause-fault : goal.returns-in-Trace-clause-fault
-returns-in-Trace-clause-fault g c = subst (λ (o : Order). IfErr c.run_rows.result (NotReported o)) (sym c.in-Trace.is) c.run_rows.ensures.fault
+returns-in-Trace-clause-fault g c = subst (λ (o : Order). IfErr c.run_rows.result (Ends (NotReported o))) (sym c.in-Trace.is) c.run_rows.ensures.fault
 
 pub returns-in-Free-clause-reported : goal.returns-in-Free-clause-reported
 returns-in-Free-clause-reported g c =
     in_free g.P.Port.read_gives g.P.Port.write_gives c.args.run.now.order (options_of c.args.run.now) c.args.geometry c.args.ports.items c.args.run.now.totals c.args.rows.items _ _ c.run_free.result c.in-Free.is c.run_free.ensures.reported
 
 pub returns-in-Free-clause-fault : goal.returns-in-Free-clause-fault
-returns-in-Free-clause-fault g c = subst (λ (o : Order). IfErr c.run_free.result (NotReported o)) (sym c.in-Free.is) c.run_free.ensures.fault
+returns-in-Free-clause-fault g c = subst (λ (o : Order). IfErr c.run_free.result (Ends (NotReported o))) (sym c.in-Free.is) c.run_free.ensures.fault
