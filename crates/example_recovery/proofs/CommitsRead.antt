@@ -1,5 +1,5 @@
 -- What is read of commits.
-use Rattle.std.proofs.Common.{◌≡◌, Bool, ℕ, ◌+◌, ◌-◌, ◌<◌, ◌≤◌, List, [], ◌∷◌, ◌++◌, length, map, take, drop, refl, sym, ap, subst, ◌∙◌, append_assoc, append-nil, arith, length-append}
+use Rattle.std.proofs.Common.{◌≡◌, Bool, ℕ, ◌+◌, ◌-◌, ◌^◌, ◌<◌, ◌≤◌, List, [], ◌∷◌, ◌++◌, length, map, take, drop, refl, sym, ap, subst, ◌∙◌, append_assoc, append-nil, arith, length-append}
 use Rattle.std.specs.Int.{w64, to_le_bytes}
 use Rattle.std.proofs.lemmas.List.{map_push, take-append-drop, length-take, take_at, append_cancel_left, length_push, length-map}
 use Rattle.bp_trail.specs.declared.records.LogRecord.{LogRecord}
@@ -157,13 +157,16 @@ same-record x y p o b l =
     ∙ ap (λ (t : List ℕ). record { page = y.page; offset = y.offset; bytes = t; lsn = x.lsn }) b
     ∙ ap (λ (n : ℕ). record { page = y.page; offset = y.offset; bytes = y.bytes; lsn = n }) l
 
-change-same : (lsn : ℕ) (x y : LogRecord) (r s : List ℕ) → IsChange lsn x → IsChange lsn y → change_bytes x ++ r ≡ change_bytes y ++ s → (x ≡ y) × (r ≡ s)
+pub change-same : (lsn : ℕ) (x y : LogRecord) (r s : List ℕ) → IsChange lsn x → IsChange lsn y → change_bytes x ++ r ≡ change_bytes y ++ s → (x ≡ y) × (r ≡ s)
 change-same lsn x y r s fx fy e =
     let one = number-same x.page y.page (number x.offset ++ (number (length x.bytes) ++ (x.bytes ++ r))) (number y.offset ++ (number (length y.bytes) ++ (y.bytes ++ s))) fx.page fy.page (sym (change-parts x r) ∙ e ∙ change-parts y s) in
-    let two = number-same x.offset y.offset (number (length x.bytes) ++ (x.bytes ++ r)) (number (length y.bytes) ++ (y.bytes ++ s)) fx.offset fy.offset one.1 in
+    let two = number-same x.offset y.offset (number (length x.bytes) ++ (x.bytes ++ r)) (number (length y.bytes) ++ (y.bytes ++ s)) (wide x fx) (wide y fy) one.1 in
     let three = number-same (length x.bytes) (length y.bytes) (x.bytes ++ r) (y.bytes ++ s) fx.size fy.size two.1 in
     let bytes : x.bytes ≡ y.bytes = sym (take_at x.bytes r (length x.bytes) refl) ∙ ap (take (length x.bytes)) three.1 ∙ take_at y.bytes s (length x.bytes) (sym three.0) in
     (same-record x y one.0 two.0 bytes (fx.under ∙ sym fy.under), append_cancel_left y.bytes r s (subst (λ (t : List ℕ). t ++ r ≡ y.bytes ++ s) bytes three.1))
+  where
+    wide : (z : LogRecord) → IsChange lsn z → z.offset < 2 ^ 64
+    wide z f = let small = f.offset in omega arith
 
 pub payload-same : (lsn : ℕ) (xs ys : List LogRecord) → AreChanges lsn xs → AreChanges lsn ys → payload_of xs ≡ payload_of ys → xs ≡ ys
 payload-same lsn [] [] f g e = refl

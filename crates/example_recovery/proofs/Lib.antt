@@ -9,3 +9,4 @@ pub mod Tables
 pub mod Tabling
 pub mod Pools
 pub mod Openings
+pub mod Refusals

@@ -49,7 +49,7 @@ commits-same lsn (x ∷ xs) (y ∷ ys) f g e =
     ap (λ (c : List LogRecord). c ∷ xs) (payload-same lsn x y f.0 g.0 h.0) ∙ ap (λ (t : List (List LogRecord)). y ∷ t) (commits-same (lsn + 1) xs ys f.1 g.1 h.1)
 
 -- the first record stands at the front
-head-is : (table bytes : List ℕ) (f l : ℕ) (cs : List LogRecord) (h : HasCommits table bytes f l cs) → bytes ≡ frame f table ++ (frames (f + 1) (map payload_of h.commits) ++ h.is_read.rest)
+pub head-is : (table bytes : List ℕ) (f l : ℕ) (cs : List LogRecord) (h : HasCommits table bytes f l cs) → bytes ≡ frame f table ++ (frames (f + 1) (map payload_of h.commits) ++ h.is_read.rest)
 head-is table bytes f l cs h = h.is_read.stands ∙ append_assoc (frame f table) (frames (f + 1) (map payload_of h.commits)) h.is_read.rest
 
 first-same : (table bytes : List ℕ) (f g l m : ℕ) (cs ds : List LogRecord) → HasCommits table bytes f l cs → HasCommits table bytes g m ds → f ≡ g

@@ -1,6 +1,8 @@
 -- Commits as records of a log: the changes of each are one payload, under one LSN.
-use Rattle.std.specs.Prelude.{◌≡◌, ℕ, ◌+◌, ◌<◌, ◌≤◌, ◌^◌, List, [], ◌∷◌, ◌++◌, length, map}
+use Rattle.std.specs.Prelude.{◌≡◌, ◌≢◌, ℕ, ◌+◌, ◌<◌, ◌≤◌, ◌^◌, List, [], ◌∷◌, ◌++◌, length, map}
 use Rattle.bp_trail.specs.declared.records.LogRecord.{LogRecord}
+use Rattle.example_recovery.specs.declared.log.LogFault.{LogFault}
+use Rattle.example_recovery.specs.declared.log.LogFault.TheVariants.{Memory}
 use Rattle.example_recovery.specs.Frames.{number}
 use Rattle.example_recovery.specs.Lives.{IsRead}
 
@@ -24,7 +26,7 @@ changes_of (commit ∷ later) = commit ++ changes_of later
 pub record IsChange (lsn : ℕ) (r : LogRecord) : Type 0 where
   pub under : r.lsn ≡ lsn
   pub page : r.page < 2 ^ 64
-  pub offset : r.offset < 2 ^ 64
+  pub offset : r.offset < 2 ^ 32
   pub size : length r.bytes < 2 ^ 64
 
 abbrev pub AreChanges : ℕ → List LogRecord → Type 0
@@ -42,6 +44,16 @@ pub record HasCommits (table bytes : List ℕ) (first last : ℕ) (changes : Lis
   pub are : AreCommits (first + 1) commits
   pub last_is : last ≡ first + length commits
   pub changes_are : changes ≡ changes_of commits
+
+-- no change stands at the front of these bytes
+abbrev pub NoChange : ℕ → List ℕ → Type 0
+NoChange lsn bytes =
+    (r : LogRecord) (rest : List ℕ) → IsChange lsn r → bytes ≢ change_bytes r ++ rest
+
+-- what a refusal tells, but for one that wants memory
+abbrev pub Tells : LogFault → Type 0 → Type 0
+Tells Memory P = Unit {0}
+Tells why P = P
 
 -- what was read are the first of the commits, each whole, and as many as were durable; the record that
 -- names the table was, where any was

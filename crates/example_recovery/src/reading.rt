@@ -1,7 +1,7 @@
 //! Commits as records of a log, and how a log is read after a crash.
-ghost use Rattle.std.specs.Prelude.{◌≡◌, ◌++◌, ◌+◌, ℕ, Bool, List, length, IfOk, OnOk};
+ghost use Rattle.std.specs.Prelude.{◌≡◌, ◌≢◌, ◌++◌, ◌+◌, ℕ, Bool, List, length, IfOk, IfErr, OnOk};
 ghost use Rattle.bp_trail.specs.declared.records.LogRecord.{LogRecord as Record};
-ghost use Rattle.example_recovery.specs.Commits.{IsChange, AreChanges, AreCommits, HasCommits, Kept, change_bytes, payload_of, log_of};
+ghost use Rattle.example_recovery.specs.Commits.{IsChange, AreChanges, AreCommits, HasCommits, Kept, NoChange, Tells, change_bytes, payload_of, log_of};
 ghost use Rattle.example_recovery.specs.Frames.{IsRecord, frame};
 ghost use Rattle.example_recovery.specs.Files.{FileCall, FileLeaves, synced, written};
 ghost use Rattle.example_recovery.specs.Lives.{LogLife, TellsTrue};
@@ -28,6 +28,7 @@ pub fn put_change(into: &mut Vec<u8>, change: &LogRecord) -> Result<(), AllocErr
 fn read_change(alloc: Global, bytes: &[u8], lsn: u64) -> Result<(LogRecord, &[u8]), LogFault>
     ensures told { IfOk result (λ x. bytes.now ≡ change_bytes x.0 ++ x.1.now) }
     ensures fits { IfOk result (λ x. IsChange lsn x.0) }
+    ensures unread { IfErr result (λ why. Tells why (NoChange lsn bytes.now)) }
 {
     let Some((page, rest)) = split_number(bytes) else {
         return Err(LogFault::NoChanges);
@@ -61,8 +62,10 @@ fn read_changes(
     lsn: u64,
     into: &mut Vec<LogRecord>,
 ) -> Result<(), LogFault>
-    ensures { OnOk result ((changes : List Record) × (into.new.items ≡ into.old.items ++ changes)
+    ensures read { OnOk result ((changes : List Record) × (into.new.items ≡ into.old.items ++ changes)
         × (payload.now ≡ payload_of changes) × AreChanges lsn changes) }
+    ensures unread { IfErr result (λ why. Tells why ((changes : List Record) →
+        AreChanges lsn changes → payload.now ≢ payload_of changes)) }
 {
     let mut rest = payload;
     while !rest.is_empty() {
@@ -97,9 +100,11 @@ pub fn first_lsn(bytes: &[u8], table: &[u8]) -> Result<u64, LogFault>
 }
 
 /// Reads a log, up to the first record that is cut off or has a wrong checksum. `NoLog`, `OtherTable`, `UnevenLsn` or
-/// `NoChanges` where the bytes are no log of this table, and `Memory`.
+/// `NoChanges` where the bytes are no log of this table, and only there, and `Memory`.
 pub fn read_log(alloc: Global, bytes: &[u8], table: &[u8]) -> Result<FoundLog, LogFault>
-    ensures { IfOk result (λ x. HasCommits table.now bytes.now x.first x.last x.changes.items) }
+    ensures read { IfOk result (λ x. HasCommits table.now bytes.now x.first x.last x.changes.items) }
+    ensures unread { IfErr result (λ why. Tells why ((first last : ℕ) (changes : List Record) →
+        HasCommits table.now bytes.now first last changes → ⊥)) }
 {
     let Some(head) = read_frame(bytes) else {
         return Err(LogFault::NoLog);

@@ -17,7 +17,7 @@ returns g c =
         last = found.last;
         changes = found.changes.items;
         calls = redone.0;
-        is_newer = record { has = c.in_ok-found.ensures; other = λ lsn payload rest fit e. (let same = c.in_ok-first_lsn.ensures lsn payload rest fit e in omega arith) };
+        is_newer = record { has = c.in_ok-found.ensures.read; other = λ lsn payload rest fit e. (let same = c.in_ok-first_lsn.ensures lsn payload rest fit e in omega arith) };
         within =
             subst (λ (n : ℕ). AreWithin device.pages n found.changes.items) size
             (subst (λ (n : ℕ). AreWithin n c.geometry.result.size found.changes.items) pages
