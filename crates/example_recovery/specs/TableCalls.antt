@@ -41,3 +41,15 @@ pub record TableGoes {S P : Type 0} (reads writes : Transfer S) (syncs : StoreSy
   pub is : IsTable table file start synced (more ++ calls) (more_log ++ log_calls) commits durable
       pending new new_log
   pub is_so : so commits durable pending
+
+-- a call that goes on with whatever a table has, and leaves what is so of what it had
+abbrev pub TableDoes : {S P : Type 0} → Transfer S → Transfer S → StoreSync S → Reads P → Writes P
+    → Syncs P → OwnedView P → OwnedView P → LogFile S → LogFile S
+    → (List (List LogRecord) → ℕ → List LogRecord → List (List LogRecord) → ℕ → List LogRecord
+    → Type 0) → Type 0
+TableDoes reads writes syncs page_reads page_writes page_syncs old new old_log new_log so =
+    (table file : List ℕ) (start records : ℕ) (synced : Trail) (calls : List DeviceCall)
+    (log_calls : List FileCall) (commits : List (List LogRecord)) (pending : List LogRecord)
+    → IsTable table file start synced calls log_calls commits records pending old old_log
+    → TableGoes reads writes syncs page_reads page_writes page_syncs old new old_log new_log table
+    file start calls log_calls (so commits records pending)

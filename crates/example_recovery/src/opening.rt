@@ -1,6 +1,5 @@
 //! Opens a table after a crash: its log is in the newer of two files, and is begun anew in the other one.
-ghost use Rattle.std.specs.Prelude.{◌≡◌, ◌⊎◌, ◌+◌, ℕ, Bool, true, false, List, [], ◌++◌, length, reverse, take, is_ok, OnOk};
-ghost use Rattle.std.specs.Result.{IsErr};
+ghost use Rattle.std.specs.Prelude.{◌≡◌, ◌+◌, ℕ, Bool, true, false, List, ◌++◌, length, reverse, is_ok, OnOk};
 ghost use Rattle.bp_trail.specs.declared.records.LogRecord.{LogRecord as Record};
 ghost use Rattle.example_recovery.specs.Disk.{DeviceCall, Honest, MayLeave};
 ghost use Rattle.example_recovery.specs.Files.{FileCall, FileLeaves, failed, synced, written};
@@ -83,8 +82,8 @@ fn move_log<R: Wait, S: Store, P: Port>(
 }
 
 /// Opens a table after a crash, whose log is in one of two files: puts its commits into the pages, durably, and begins
-/// the log anew in the other file. Returns true where that is the second one. It may be stopped at any moment, and begun
-/// again.
+/// the log anew in the other file. Returns true where that is the second one. It may be stopped at any moment, and
+/// begun again.
 ///
 /// Refused as `recover` is, with `Memory`, and with `Device` where a file fails or is shorter than it is to be. Before
 /// the pages are durable, nothing is written to the files.
@@ -109,9 +108,9 @@ pub fn open<R: Wait, S: Store, P: Port>(
     Ok(true)
 }
 
-/// Stop an opening at any moment. What is found in the two files then makes of the pages what they were to be, as often as
-/// it is stopped: while pages are redone, of which the older log knows nothing; and while the log is begun anew in its
-/// file, when all pages are durable. It does nothing: its contract is the law.
+/// Stop an opening at any moment. What is found in both files then makes of the pages what they were to be, as often as
+/// it is stopped: while pages are redone, and both files are as they were; and while the log is begun anew in the older
+/// one's file, when all pages are durable. It does nothing: its contract is the law.
 pub fn an_opening_may_be_stopped()
     ensures redoing { (tears : Bool) (pages size : ℕ) (wanted first left : ℕ → List ℕ)
         (table newer older : List ℕ) (begun last : ℕ) (changes : List Record) (done : Bool)

@@ -6,7 +6,7 @@ ghost use Rattle.example_recovery.specs.Commits.{AreChanges, payload_of};
 ghost use Rattle.example_recovery.specs.Disk.{DeviceCall};
 ghost use Rattle.example_recovery.specs.Files.{FileCall};
 ghost use Rattle.example_recovery.specs.LogFiles.{IsLogFile};
-ghost use Rattle.example_recovery.specs.TableCalls.{IsTable, TableGoes, under};
+ghost use Rattle.example_recovery.specs.TableCalls.{IsTable, TableDoes, TableGoes, under};
 ghost use Rattle.example_recovery.specs.declared.log.LogFault.TheVariants.{Memory};
 ghost use Rattle.example_recovery.specs.declared.table.TableFault.TheVariants.{Log, Pages};
 
@@ -108,13 +108,9 @@ impl<S: Store, P: Port> Table<S, P> {
 
     /// Makes each commit durable: syncs the log, and then raises the mark.
     pub fn make_durable(&mut self) -> Result<(), TableFault>
-        ensures { (table file : List ℕ) (start records : ℕ) (synced : Trail)
-            (calls : List DeviceCall) (log_calls : List FileCall) (commits : List (List Record))
-            (pending : List Record) → IsTable table file start synced calls log_calls commits records
-            pending self.old.pool self.old.log →
-            TableGoes S.reads S.writes S.syncs P.read_gives P.write_gives P.sync_gives
-            self.old.pool self.new.pool self.old.log self.new.log table file start calls log_calls
-            (λ after n left. (after ≡ commits) × (left ≡ pending)
+        ensures { TableDoes S.reads S.writes S.syncs P.read_gives P.write_gives P.sync_gives
+            self.old.pool self.new.pool self.old.log self.new.log
+            (λ commits records pending after n left. (after ≡ commits) × (left ≡ pending)
             × OnOk result (n ≡ 1 + length commits)) }
     {
         if self.log.is_ended {
@@ -127,13 +123,10 @@ impl<S: Store, P: Port> Table<S, P> {
 
     /// Fixes a page.
     fn fix<R: Wait>(&mut self, rt: &R, page: PageNo) -> Result<Pass, Refusal>
-        ensures goes { (table file : List ℕ) (start records : ℕ) (synced : Trail)
-            (calls : List DeviceCall) (log_calls : List FileCall) (commits : List (List Record))
-            (pending : List Record) → IsTable table file start synced calls log_calls commits records
-            pending self.old.pool self.old.log →
-            TableGoes S.reads S.writes S.syncs P.read_gives P.write_gives P.sync_gives
-            self.old.pool self.new.pool self.old.log self.new.log table file start calls log_calls
-            (λ after n left. (after ≡ commits) × (left ≡ pending) × (n ≡ records)) }
+        ensures goes { TableDoes S.reads S.writes S.syncs P.read_gives P.write_gives P.sync_gives
+            self.old.pool self.new.pool self.old.log self.new.log
+            (λ commits records pending after n left. (after ≡ commits) × (left ≡ pending)
+            × (n ≡ records)) }
         ensures page { IfOk result (λ pass. pass.page ≡ page) }
     {
         let fixed = self.pool.fix(rt, page);
@@ -143,13 +136,9 @@ impl<S: Store, P: Port> Table<S, P> {
 
     /// Fixes a page. Where the page that is to leave for it waits for the log, that is made durable first.
     fn fix_page<R: Wait>(&mut self, rt: &R, page: PageNo) -> Result<Pass, TableFault>
-        ensures goes { (table file : List ℕ) (start records : ℕ) (synced : Trail)
-            (calls : List DeviceCall) (log_calls : List FileCall) (commits : List (List Record))
-            (pending : List Record) → IsTable table file start synced calls log_calls commits records
-            pending self.old.pool self.old.log →
-            TableGoes S.reads S.writes S.syncs P.read_gives P.write_gives P.sync_gives
-            self.old.pool self.new.pool self.old.log self.new.log table file start calls log_calls
-            (λ after n left. (after ≡ commits) × (left ≡ pending)) }
+        ensures goes { TableDoes S.reads S.writes S.syncs P.read_gives P.write_gives P.sync_gives
+            self.old.pool self.new.pool self.old.log self.new.log
+            (λ commits records pending after n left. (after ≡ commits) × (left ≡ pending)) }
         ensures page { IfOk result (λ pass. pass.page ≡ page) }
     {
         match self.fix(rt, page) {
@@ -209,13 +198,8 @@ impl<S: Store, P: Port> Table<S, P> {
         }
         let device = self.pool.port().geometry();
         let payload = payload(alloc, &device, changes)?;
-        let lsn = match self.log.append(alloc, &payload) {
-            Ok(lsn) => lsn,
-            Err(fault) => {
-                self.is_ended = true;
-                return Err(TableFault::Log(fault));
-            }
-        };
+        self.is_ended = true;
+        let lsn = self.log.append(alloc, &payload)?;
         for change in changes {
             match self.put(rt, change, lsn) {
                 Ok(()) => {}
