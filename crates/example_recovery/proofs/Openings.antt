@@ -189,6 +189,14 @@ module _ (tears : Bool) (pages size : ℕ) (wanted first left : ℕ → List ℕ
       let b = before-of table newer begun last f changes is.has n.other in
       absurd (omega arith)
 
+  -- the log that was read begins before one that follows it
+  pub begins-before : BeginsBefore (last + 1) newer
+  begins-before = λ lsn payload rest fit e.
+      (let h = is.has in
+      let same = (frame-same lsn begun payload table rest (frames (begun + 1) (map payload_of h.commits) ++ h.is_read.rest) fit h.is_read.records.0 (sym e ∙ head-is table newer begun last changes h)).0 in
+      let ended = h.last_is in
+      omega (arith, same))
+
   pub redoing : (done : Bool) (calls later so_far : List DeviceCall) → Honest tears first calls → Recovers pages size 0 (reverse changes) calls done → calls ≡ later ++ so_far → ((p : ℕ) → MayLeave tears first so_far p (left p))
       → MayBeOpened tears size table newer older wanted left
   redoing done calls later so_far honest recovers e leaves = λ f l cs n.
@@ -198,7 +206,7 @@ module _ (tears : Bool) (pages size : ℕ) (wanted first left : ℕ → List ℕ
     left-may : MayBeRedone tears size 0 (reverse changes) wanted left
     left-may = (recovers tears wanted first m honest).0 [] calls left refl leaves
 
-    left-is : (p : ℕ) → left p ≡ wanted p
+    pub left-is : (p : ℕ) → left p ≡ wanted p
     left-is p =
         elim (cases_lt p pages) [
           | inl lt ↦ ((recovers tears wanted first m honest).1 refl).durable p (left p) lt (leaves p)

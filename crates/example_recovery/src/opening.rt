@@ -4,7 +4,7 @@ ghost use Rattle.bp_trail.specs.declared.records.LogRecord.{LogRecord as Record}
 ghost use Rattle.example_recovery.specs.Disk.{DeviceCall, Honest, MayLeave};
 ghost use Rattle.example_recovery.specs.Files.{FileCall, FileLeaves, failed, synced, written};
 ghost use Rattle.example_recovery.specs.Lives.{TellsTrue};
-ghost use Rattle.example_recovery.specs.Opening.{AreWithin, Beginning, IsNewer, MayBeOpened, MovesLog, OpensLog, RedoesLog};
+ghost use Rattle.example_recovery.specs.Opening.{AreWithin, Beginning, BeginsBefore, IsNewer, MayBeOpened, MovesLog, OpensLog, RedoesLog};
 ghost use Rattle.example_recovery.specs.Promise.{MayBeRedone, Recovers};
 
 use crate::log::{LogFault, LogFile};
@@ -110,7 +110,8 @@ pub fn open<R: Wait, S: Store, P: Port>(
 
 /// Stop an opening at any moment. What is found in both files then makes of the pages what they were to be, as often as
 /// it is stopped: while pages are redone, and both files are as they were; and while the log is begun anew in the older
-/// one's file, when all pages are durable. It does nothing: its contract is the law.
+/// one's file, when all pages are durable. When it is done each page is what it was to be, durably, and the log that was
+/// read begins before the one that goes on. It does nothing: its contract is the law.
 pub fn an_opening_may_be_stopped()
     ensures redoing { (tears : Bool) (pages size : ℕ) (wanted first left : ℕ → List ℕ)
         (table newer older : List ℕ) (begun last : ℕ) (changes : List Record) (done : Bool)
@@ -131,4 +132,12 @@ pub fn an_opening_may_be_stopped()
         Beginning older (last + 1) table before log_calls → FileLeaves older log_calls bytes →
         TellsTrue (last + 1) (synced older log_calls) (written older log_calls) bytes →
         MayBeOpened tears size table newer bytes wanted left }
+    ensures done { (tears : Bool) (pages size : ℕ) (wanted first left : ℕ → List ℕ)
+        (table newer older : List ℕ) (begun last : ℕ) (changes : List Record)
+        (calls : List DeviceCall) →
+        IsNewer table newer older begun last changes → AreWithin pages size changes →
+        MayBeRedone tears size 0 (reverse changes) wanted first → Honest tears first calls →
+        Recovers pages size 0 (reverse changes) calls true →
+        ((p : ℕ) → MayLeave tears first calls p (left p)) →
+        ((p : ℕ) → left p ≡ wanted p) × BeginsBefore (last + 1) newer }
 {}

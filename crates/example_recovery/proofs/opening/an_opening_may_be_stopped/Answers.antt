@@ -1,4 +1,4 @@
-use Rattle.example_recovery.proofs.Openings.{redoing, beginning}
+use Rattle.example_recovery.proofs.Openings.{redoing, beginning, begins-before, left-is}
 use Rattle.example_recovery.proofs.opening.an_opening_may_be_stopped.Goals as goal
 
 pub returns-clause-redoing : goal.returns-clause-redoing
@@ -8,3 +8,9 @@ returns-clause-redoing c = λ tears pages size wanted first left table newer old
 pub returns-clause-beginning : goal.returns-clause-beginning
 returns-clause-beginning c = λ tears pages size wanted first left table newer older bytes begun last changes calls before log_calls is within m honest recovers leaves s w b file_left tells.
     beginning tears pages size wanted first left table newer older begun last changes is m calls within honest recovers leaves before log_calls bytes s w b file_left tells
+
+pub returns-clause-done : goal.returns-clause-done
+returns-clause-done c = λ tears pages size wanted first left table newer older begun last changes calls is within m honest recovers leaves. (
+  left-is tears pages size wanted first left table newer older begun last changes is m calls within honest recovers leaves,
+  begins-before tears pages size wanted first left table newer older begun last changes is m,
+)
