@@ -180,15 +180,18 @@ impl LaggingTree {
     }
 
     /// Returns the first candidate of those last referenced before a time, or `None` where there is none. Whoever
-    /// waited apart and was last referenced before the time comes into hand, or into the tree. Where the first in hand comes
-    /// before whoever is first in the tree, rightly or not, it is the first. Else the tree catches up with each seat that
-    /// comes first in it wrongly, until one comes first rightly. After a pass the next look finds it.
+    /// waited apart and was last referenced before the time comes into hand, or into the tree. Until the
+    /// first in hand comes before whoever is first in the tree, rightly or not, the tree catches up with each seat that
+    /// comes first in it wrongly, or one comes first rightly. After a pass the next look finds it.
     pub fn first_before(&mut self, time: u64) -> Seat
         ensures same { self.new ≡ self.old }
         ensures first { IsFirst self.new (λ e. e.1 < time) result }
     {
         let many = self.seats.len() / SEATS_A_TAKE + FEW_TAKEN;
-        let least = stamp_of(&self.tree.first());
+        let least = match self.tree.first() {
+            None => stamp_of(&self.hands.first(&self.seats, time)),
+            first => stamp_of(&first),
+        };
         let mut taken = 0usize;
         while let Some(seat) = self.young.take_below(time) {
             let other = self.hands.exchange(&self.seats, seat, time);
@@ -206,11 +209,11 @@ impl LaggingTree {
             taken = taken.saturating_add(1);
         }
         let held = self.hands.first(&self.seats, time);
-        if leads(&held, &self.tree.first()) {
-            return held;
-        }
         let (mut moved, mut walks) = (0usize, 0usize);
         loop {
+            if leads(&held, &self.tree.first()) {
+                return held;
+            }
             if moved < FEW_WALKS
                 && let Some(seat) = self.tree.hiding(time)
             {
