@@ -67,8 +67,8 @@ fn move_log<R: Wait, S: Store, P: Port>(
     port: &mut P,
     log: &mut LogFile<S>,
 ) -> Result<(), TableFault>
-    ensures { (before : List FileCall) → failed before ≡ false → written older.now before ≡ older.now →
-        log.old.size ≡ length older.now →
+    ensures { (before : List FileCall) → failed before ≡ false →
+        written older.now before ≡ older.now → log.old.size ≡ length older.now →
         MovesLog S.reads S.writes S.syncs P.read_gives P.write_gives P.sync_gives
         (P.geometry_of port.old) table.now newer.now older.now before port.old log.old
         (is_ok result) port.new log.new }
@@ -96,7 +96,8 @@ pub fn open<R: Wait, S: Store, P: Port>(
     two: &mut LogFile<S>,
 ) -> Result<bool, TableFault>
     ensures { OpensLog S.reads S.writes S.syncs P.read_gives P.write_gives P.sync_gives
-        (P.geometry_of port.old) table.now port.old one.old two.old result port.new one.new two.new }
+        (P.geometry_of port.old) table.now port.old one.old two.old
+        result port.new one.new two.new }
 {
     let a = one.read_all(alloc)?;
     let b = two.read_all(alloc)?;

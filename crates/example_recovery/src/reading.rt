@@ -62,8 +62,8 @@ fn read_changes(
     lsn: u64,
     into: &mut Vec<LogRecord>,
 ) -> Result<(), LogFault>
-    ensures read { OnOk result ((changes : List Record) × (into.new.items ≡ into.old.items ++ changes)
-        × (payload.now ≡ payload_of changes) × AreChanges lsn changes) }
+    ensures read { OnOk result ((changes : List Record)
+        × (into.new.items ≡ into.old.items ++ changes) × (payload.now ≡ payload_of changes) × AreChanges lsn changes) }
     ensures unread { IfErr result (λ why. Tells why ((changes : List Record) →
         AreChanges lsn changes → payload.now ≢ payload_of changes)) }
 {
@@ -102,7 +102,8 @@ pub fn first_lsn(bytes: &[u8], table: &[u8]) -> Result<u64, LogFault>
 /// Reads a log, up to the first record that is cut off or has a wrong checksum. `NoLog`, `OtherTable`, `UnevenLsn` or
 /// `NoChanges` where the bytes are no log of this table, and only there, and `Memory`.
 pub fn read_log(alloc: Global, bytes: &[u8], table: &[u8]) -> Result<FoundLog, LogFault>
-    ensures read { IfOk result (λ x. HasCommits table.now bytes.now x.first x.last x.changes.items) }
+    ensures read { IfOk result (λ x.
+        HasCommits table.now bytes.now x.first x.last x.changes.items) }
     ensures unread { IfErr result (λ why. Tells why ((first last : ℕ) (changes : List Record) →
         HasCommits table.now bytes.now first last changes → ⊥)) }
 {
