@@ -34,7 +34,7 @@ const SEATS_A_TAKE: usize = 128;
 /// Whoever enters at a seat that the tree may not lag behind waits apart, in a queue by last time, so that nobody who
 /// is too young hides the others in the tree. A look first takes out of the queue who came of age. Four of them are kept
 /// in hand, out of the tree too: those who come first. So one that is replaced soon after it is old enough takes no
-/// walk; each of the others takes one. A page that a look finds in a wrong place, and too young, waits apart as well,
+/// walk; the others mostly take one. A page that a look finds in a wrong place, and too young, waits apart as well,
 /// unless it is likely to be old enough before it comes first. Where it comes first too soon after all, it is let wait,
 /// up to 16 pages a look.
 ///
