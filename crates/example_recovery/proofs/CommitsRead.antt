@@ -1,14 +1,14 @@
 -- What is read of commits.
-use Rattle.std.proofs.Common.{◌≡◌, Bool, ℕ, ◌+◌, ◌-◌, ◌^◌, ◌<◌, ◌≤◌, List, [], ◌∷◌, ◌++◌, length, map, take, drop, refl, sym, ap, subst, ◌∙◌, append_assoc, append-nil, arith, length-append}
+use Rattle.std.proofs.Common.{◌≡◌, Bool, false, ℕ, ◌+◌, ◌-◌, ◌^◌, ◌<◌, ◌≤◌, List, [], ◌∷◌, ◌++◌, length, map, take, drop, refl, sym, ap, subst, ◌∙◌, append_assoc, append-nil, arith, length-append}
 use Rattle.std.specs.Int.{w64, to_le_bytes}
 use Rattle.std.proofs.lemmas.List.{map_push, take-append-drop, length-take, take_at, append_cancel_left, length_push, length-map}
 use Rattle.bp_trail.specs.declared.records.LogRecord.{LogRecord}
 use Rattle.example_recovery.specs.Frames.{number, frame, frames, IsRecord, NoFrame}
-use Rattle.example_recovery.specs.Lives.{AreRecords, LogLife, TellsTrue}
+use Rattle.example_recovery.specs.Lives.{AreRecords, LogLife, Reopened, TellsTrue}
 use Rattle.example_recovery.specs.Commits.{change_bytes, payload_of, log_of, changes_of, IsChange, AreChanges, AreCommits, HasCommits, Kept}
 use Rattle.example_recovery.proofs.Framing.{length-number, length-frame, number-same}
 use Rattle.example_recovery.specs.Files.{FileCall, FileLeaves, synced, written}
-use Rattle.example_recovery.proofs.Lives.{frames-push, records-append, life-is, next, front, enough}
+use Rattle.example_recovery.proofs.Lives.{frames-push, records-append, life-is, next, front, enough, remains}
 
 -- what was put behind bytes, number by number
 pub put-change : (old one two three four bytes : List ℕ) (r : LogRecord) → one ≡ old ++ to_le_bytes w64 r.page → two ≡ one ++ to_le_bytes w64 r.offset → three ≡ two ++ to_le_bytes w64 (length bytes) → four ≡ three ++ bytes
@@ -139,14 +139,18 @@ finds-next table bytes first last lsn changes new commit payload rest after so t
       changes_are = is ∙ ap (λ (t : List LogRecord). t ++ commit) so.changes_are ∙ sym (changes_of-push so.commits commit);
     }
 
-pub finds-all : (table bytes : List ℕ) (first last : ℕ) (changes : List LogRecord) (rest : List ℕ) → Finds table bytes first last changes rest → NoFrame rest → HasCommits table bytes first last changes
-finds-all table bytes first last changes rest so none = record {
-  commits = so.commits;
-  is_read = record { rest = rest; stands = so.told; records = so.records; ends = none };
-  are = so.are;
-  last_is = so.last_is;
-  changes_are = so.changes_are;
-}
+pub finds-all : (table bytes : List ℕ) (first last : ℕ) (changes : List LogRecord) (rest records : List ℕ) (so : Finds table bytes first last changes rest) → NoFrame rest → records ≡ frames first (log_of table so.commits)
+    → (h : HasCommits table bytes first last changes) × (records ≡ frames first (log_of table h.commits))
+finds-all table bytes first last changes rest records so none told = (
+  record {
+    commits = so.commits;
+    is_read = record { rest = rest; stands = so.told; records = so.records; ends = none };
+    are = so.are;
+    last_is = so.last_is;
+    changes_are = so.changes_are;
+  },
+  told,
+)
 
 -- ---- the same payloads are the same commits
 
@@ -188,22 +192,24 @@ commits-front lsn (x ∷ xs) (y ∷ ys) more f g e =
     let rest = commits-front (lsn + 1) xs ys more f.1 g.1 h.1 in
     (rest.0, ap (λ (c : List LogRecord). c ∷ xs) first ∙ ap (λ (t : List (List LogRecord)). y ∷ t) rest.1)
 
-pub whole-commits : (table first left : List ℕ) (start durable : ℕ) (alive : Bool) (calls : List FileCall) (commits : List (List LogRecord)) (found last : ℕ) (changes : List LogRecord)
-    → LogLife first start alive calls (log_of table commits) durable → AreCommits (start + 1) commits → FileLeaves first calls left → TellsTrue start (synced first calls) (written first calls) left
-    → HasCommits table left found last changes → Kept start durable commits found last changes
-whole-commits table first left start durable alive calls commits found last changes life are leaves tells has =
-    let is = life-is first start alive calls (log_of table commits) durable life in
+pub whole-commits : (table first left : List ℕ) (start durable : ℕ) (alive : Bool) (calls later : List FileCall) (commits : List (List LogRecord)) (kept : List (List ℕ)) (n found last : ℕ) (changes : List LogRecord)
+    → LogLife first start alive calls (log_of table commits) durable → AreCommits (start + 1) commits → Reopened first start calls (log_of table commits) durable later kept n → FileLeaves first later left
+    → TellsTrue start (synced first later) (written first later) left → HasCommits table left found last changes → Kept start durable commits found last changes
+whole-commits table first left start durable alive calls later commits kept n found last changes life are reopened leaves tells has =
+    let r = remains first start (log_of table commits) durable alive calls (life-is first start alive calls (log_of table commits) durable life) later kept n reopened in
     let read = has.is_read in
     let log = log_of table has.commits in
     let opening : left ≡ frames start [] ++ (frame found table ++ (frames (found + 1) (map payload_of has.commits) ++ read.rest)) = read.stands ∙ append_assoc (frame found table) (frames (found + 1) (map payload_of has.commits)) read.rest in
-    let n = next first start alive calls (log_of table commits) durable left is leaves tells [] (log_of table commits) refl found table (frames (found + 1) (map payload_of has.commits) ++ read.rest) read.records.0 opening in
-    let same : found ≡ start = n.3 ∙ omega arith in
+    let first_one = next first start false later kept n left r.is leaves tells [] kept refl found table (frames (found + 1) (map payload_of has.commits) ++ read.rest) read.records.0 opening in
+    let same : found ≡ start = first_one.3 ∙ omega arith in
     let records : AreRecords start log = subst (λ (k : ℕ). AreRecords k log) same read.records in
     let stands : left ≡ frames start log ++ read.rest = subst (λ (k : ℕ). left ≡ frames k log ++ read.rest) same read.stands in
-    let f = front first start alive calls (log_of table commits) durable left is leaves tells log read.rest records stands in
-    let h = head-same table table (map payload_of commits) (map payload_of has.commits ++ f.0) f.1 in
-    let c = commits-front (start + 1) commits has.commits f.0 are (subst (λ (k : ℕ). AreCommits (k + 1) has.commits) same has.are) h.1 in
-    let e = enough first start alive calls (log_of table commits) durable left is leaves tells log f.0 read.rest f.1 stands read.ends in
+    let f = front first start false later kept n left r.is leaves tells log read.rest records stands in
+    let all : log_of table commits ≡ log ++ (f.0 ++ r.lost) = r.stands ∙ ap (λ (xs : List (List ℕ)). xs ++ r.lost) f.1 ∙ append_assoc log f.0 r.lost in
+    let h = head-same table table (map payload_of commits) (map payload_of has.commits ++ (f.0 ++ r.lost)) all in
+    let c = commits-front (start + 1) commits has.commits (f.0 ++ r.lost) are (subst (λ (k : ℕ). AreCommits (k + 1) has.commits) same has.are) h.1 in
+    let e = enough first start false later kept n left r.is leaves tells log f.0 read.rest f.1 stands read.ends in
+    let durably = r.durably in
     record {
       kept = has.commits;
       lost = c.0;

@@ -34,3 +34,10 @@ module _ (from p : ℕ) (log : List LogRecord) (i : ℕ) (r : LogRecord) (below 
       ∙ ap (filter f) (reverse-append (take i log) (r ∷ []))
       ∙ ap (λ (b : Bool). cond b (r ∷ filter f (reverse (take i log))) (filter f (reverse (take i log)))) h
       ∙ none
+
+-- the records so far, and one more
+pub one-more : (from p : ℕ) (log : List LogRecord) (i : ℕ) (r : LogRecord) → i < length log → r ≡ get_or log i r
+    → records_from from (reverse (take (i + 1) log)) p ≡ cond (wanted from p r) (r ∷ records_from from (reverse (take i log)) p) (records_from from (reverse (take i log)) p)
+one-more from p log i r below is =
+    let front : take (i + 1) log ≡ take i log ++ r ∷ [] = rw add-one (take-suc log i r below ∙ ap (λ (x : LogRecord). take i log ++ x ∷ []) (sym is)) in
+    ap (λ xs. filter (wanted from p) (reverse xs)) front ∙ ap (filter (wanted from p)) (reverse-append (take i log) (r ∷ []))

@@ -9,4 +9,5 @@ pub mod Tables
 pub mod Tabling
 pub mod Pools
 pub mod Openings
+pub mod Heads
 pub mod Refusals

@@ -7,9 +7,10 @@ use Rattle.std.proofs.lemmas.List.{take_at, drop_at, drop-drop, take-append-drop
 use Rattle.bp_page.specs.Patched.{patched}
 use Rattle.example_recovery.specs.Frames.{frame, frames, IsRecord, NoFrame}
 use Rattle.example_recovery.specs.Files.{FileCall, failed, written, settles, synced, Unsure, FileLeaves}
-use Rattle.example_recovery.specs.Files.FileCall.{Write, Sync}
-use Rattle.example_recovery.specs.Lives.{LogLife, AreRecords, SameAt, TellsTrue}
-use Rattle.example_recovery.specs.Lives.LogLife.{wiped, appended, synced as was_synced, unsynced}
+use Rattle.example_recovery.specs.Files.FileCall.{Write, Again, Sync}
+use Rattle.example_recovery.specs.Lives.{LogLife, AreRecords, IsRead, Reopened, SameAt, TellsTrue, whole}
+use Rattle.example_recovery.specs.Lives.LogLife.{wiped, appended, synced as was_synced, unsynced, closed}
+use Rattle.example_recovery.specs.Lives.Reopened.{ended, again, synced as was_settled}
 use Rattle.example_recovery.proofs.Framing.{frame-same, zeros-none}
 
 -- ---- records one after the other
@@ -144,6 +145,17 @@ module _ (first : List ℕ) (start : ℕ) where
           good = λ _. is.good refl;
         }
 
+    closes : LifeIs first start false calls log durable
+    closes = record {
+      room = is.room;
+      written_is = is.written_is;
+      synced_is = is.synced_is;
+      unsure = is.unsure;
+      count = is.count;
+      records = is.records;
+      good = λ no. absurd (cc);
+    }
+
     settles-none : LifeIs first start false (Sync false ∷ calls) log durable
     settles-none = record {
       room = is.room;
@@ -160,6 +172,7 @@ module _ (first : List ℕ) (start : ℕ) where
   life-is _ _ _ _ (appended {calls = calls} {log = log} {durable = durable} payload good older fit room) = grows calls log durable (life-is true calls log durable older) payload good fit room
   life-is _ _ _ _ (was_synced {calls = calls} {log = log} {durable = durable} older) = settles-all calls log durable (life-is true calls log durable older)
   life-is _ _ _ _ (unsynced {calls = calls} {log = log} {durable = durable} older) = settles-none calls log durable (life-is true calls log durable older)
+  life-is _ _ _ _ (closed {calls = calls} {log = log} {durable = durable} older) = closes calls log durable (life-is true calls log durable older)
 
 -- ---- what is read of what a crash leaves
 
@@ -323,3 +336,113 @@ module _ (first : List ℕ) (start : ℕ) (alive : Bool) (calls : List FileCall)
           front-is ∙ ap (λ (xs : List (List ℕ)). frames start xs ++ tail) part ∙ ap (λ (t : List ℕ). t ++ tail) (frames-append start payloads (s.0 ∷ s.1))
           ∙ append_assoc (frames start payloads) (frame l s.0 ++ frames (l + 1) s.1) tail ∙ ap (λ (t : List ℕ). frames start payloads ++ t) (append_assoc (frame l s.0) (frames (l + 1) s.1) tail) in
           none l s.0 (frames (l + 1) s.1 ++ tail) first-is (append_cancel_left (frames start payloads) rest (frame l s.0 ++ (frames (l + 1) s.1 ++ tail)) (sym told ∙ stands))
+
+-- ---- after openings
+
+-- what they left of the log
+pub record Remains (first : List ℕ) (start : ℕ) (log : List (List ℕ)) (durable : ℕ) (later : List FileCall) (found : List (List ℕ)) (n : ℕ) : Type 0 where
+  pub is : LifeIs first start false later found n
+  pub lost : List (List ℕ)
+  pub stands : log ≡ found ++ lost
+  pub durably : durable ≤ n
+
+module _ (first : List ℕ) (start : ℕ) (log : List (List ℕ)) (durable : ℕ) where
+  written-again : (later : List FileCall) (found kept : List (List ℕ)) (n : ℕ) (bytes : List ℕ) (good : Bool) → Remains first start log durable later found n → FileLeaves first later bytes
+      → TellsTrue start (synced first later) (written first later) bytes → IsRead start kept bytes → Remains first start log durable (Again (whole (length first) start kept) good ∷ later) kept n
+  written-again later found kept n bytes good r leaves tells read = record {
+    is = record {
+      room = fits;
+      written_is = all;
+      synced_is = r.is.synced_is ∙ ap (λ (xs : List (List ℕ)). frames start xs ++ replicate (length first - length (frames start xs)) 0) same;
+      unsure = λ i h. subst (λ (xs : List (List ℕ)). length (frames start xs) ≤ i) same (r.is.unsure i h);
+      count = most;
+      records = read.records;
+      good = λ no. absurd (cc);
+    };
+    lost = more.0 ++ r.lost;
+    stands = r.stands ∙ ap (λ (xs : List (List ℕ)). xs ++ r.lost) more.1 ∙ append_assoc kept more.0 r.lost;
+    durably = r.durably;
+  }
+    where
+      more : (xs : List (List ℕ)) × (found ≡ kept ++ xs)
+      more = front first start false later found n bytes r.is leaves tells kept read.rest read.records read.stands
+
+      most : n ≤ length kept
+      most = enough first start false later found n bytes r.is leaves tells kept more.0 read.rest more.1 read.stands read.ends
+
+      same : take n found ≡ take n kept
+      same = ap (take n) more.1 ∙ take-append-le n kept more.0 most
+
+      fits : length (frames start kept) ≤ length first
+      fits =
+          let parts = ap (λ (xs : List (List ℕ)). length (frames start xs)) more.1 ∙ ap (λ (t : List ℕ). length t) (frames-append start kept more.0) in
+          let room = r.is.room in
+          omega (arith, parts, length-append (frames start kept) (frames (start + length kept) more.0))
+
+      long : length (whole (length first) start kept) ≡ length first
+      long = omega (arith, fits, length-append (frames start kept) (replicate (length first - length (frames start kept)) 0), length-replicate {A = ℕ} (length first - length (frames start kept)) 0)
+
+      size : length (written first later) ≡ length first
+      size =
+          let room = r.is.room in
+          ap (λ (t : List ℕ). length t) r.is.written_is ∙ omega (arith, length-append (frames start found) (replicate (length first - length (frames start found)) 0), length-replicate {A = ℕ} (length first - length (frames start found)) 0)
+
+      all : patched 0 (whole (length first) start kept) (written first later) ≡ whole (length first) start kept
+      all =
+          ap (λ (t : List ℕ). whole (length first) start kept ++ t) (drop_all (0 + length (whole (length first) start kept)) (written first later) (omega (arith, long, size)))
+          ∙ append-nil (whole (length first) start kept)
+
+  synced-again : (later : List FileCall) (found : List (List ℕ)) (n : ℕ) (bytes : List ℕ) (good : Bool) → Remains first start log durable (Again bytes true ∷ later) found n
+      → Remains first start log durable (Sync good ∷ Again bytes true ∷ later) found (cond good (length found) n)
+  synced-again later found n bytes false r = record {
+    is = record {
+      room = r.is.room;
+      written_is = r.is.written_is;
+      synced_is = r.is.synced_is;
+      unsure = r.is.unsure;
+      count = r.is.count;
+      records = r.is.records;
+      good = λ no. absurd (cc);
+    };
+    lost = r.lost;
+    stands = r.stands;
+    durably = r.durably;
+  }
+  synced-again later found n bytes true r =
+      let all : take (length found) found ≡ found = take_all (length found) found (omega arith) in
+      let count = r.is.count in
+      let durably = r.durably in
+      record {
+        is = record {
+          room = r.is.room;
+          written_is = r.is.written_is;
+          synced_is = r.is.written_is ∙ ap (λ (xs : List (List ℕ)). frames start xs ++ replicate (length first - length (frames start xs)) 0) (sym all);
+          unsure = λ i h. absurd h;
+          count = omega arith;
+          records = r.is.records;
+          good = λ no. absurd (cc);
+        };
+        lost = r.lost;
+        stands = r.stands;
+        durably = omega arith;
+      }
+
+  module _ (alive : Bool) (calls : List FileCall) (is : LifeIs first start alive calls log durable) where
+    pub remains : (later : List FileCall) (found : List (List ℕ)) (n : ℕ) → Reopened first start calls log durable later found n → Remains first start log durable later found n
+    remains _ _ _ ended = record {
+      is = record {
+        room = is.room;
+        written_is = is.written_is;
+        synced_is = is.synced_is;
+        unsure = is.unsure;
+        count = is.count;
+        records = is.records;
+        good = λ no. absurd (cc);
+      };
+      lost = [];
+      stands = sym (append-nil log);
+      durably = omega arith;
+    }
+    remains _ _ _ (again {later = later} {found = found} {n = n} bytes kept good before leaves tells read) =
+        written-again later found kept n bytes good (remains later found n before) leaves tells read
+    remains _ _ _ (was_settled {later = later} {found = found} {n = n} bytes good before) = synced-again later found n bytes good (remains (Again bytes true ∷ later) found n before)

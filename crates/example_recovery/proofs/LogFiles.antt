@@ -2,15 +2,17 @@
 use Rattle.std.proofs.Common.{◌≡◌, inl, inr, ℕ, ◌+◌, ◌^◌, ◌<◌, ◌≤◌, Bool, true, false, not, List, [], ◌∷◌, ◌++◌, length, replicate, refl, sym, ap, subst, ◌∙◌, append_assoc, arith, length-append}
 use Rattle.std.proofs.lemmas.List.{length_push}
 use Rattle.std.specs.Prelude.{◌⊎◌, Result, Ok, Err, IfOk, OnErr}
-use Rattle.std.specs.Result.{IsErr}
+use Rattle.std.specs.Result.{IsErr, is_ok}
 use Rattle.bp_ports.specs.Files.{Transfer, StoreSync}
 use Rattle.example_recovery.specs.declared.log.LogFile.{LogFile}
 use Rattle.example_recovery.specs.Frames.{frame, frames}
 use Rattle.example_recovery.specs.Files.{FileCall, FileDid, failed, written}
-use Rattle.example_recovery.specs.Files.FileCall.{Write, Sync}
+use Rattle.example_recovery.specs.Files.FileCall.{Write, Again, Sync}
 use Rattle.example_recovery.specs.Lives.{LogLife}
-use Rattle.example_recovery.specs.Lives.LogLife.{wiped, appended, synced as was_synced, unsynced}
-use Rattle.example_recovery.specs.LogFiles.{IsLogFile, GoesOn, Begins}
+use Rattle.example_recovery.specs.Lives.LogLife.{wiped, appended, synced as was_synced, unsynced, closed}
+use Rattle.example_recovery.specs.LogFiles.{IsLogFile, GoesOn, Begins, Settles}
+use Rattle.example_recovery.specs.LogFiles.Settles.{nothing as settles_nothing, unwritten as settles_unwritten, synced as settles_synced}
+use Rattle.example_recovery.specs.declared.log.LogFault.{LogFault}
 use Rattle.example_recovery.specs.LogFiles.Wipes.{nothing, wrote, unsynced as was_unsynced}
 use Rattle.example_recovery.proofs.Lives.{frames-push}
 
@@ -27,6 +29,22 @@ module _ {S : Type 0} (reads writes : Transfer S) (syncs : StoreSync S) where
   pub weaken : (old new : LogFile S) (first : List ℕ) (start : ℕ) (calls : List FileCall) (P Q : List (List ℕ) → ℕ → Type 0)
       → ((log : List (List ℕ)) (durable : ℕ) → P log durable → Q log durable) → GoesOn reads writes syncs old new first start calls P → GoesOn reads writes syncs old new first start calls Q
   weaken old new first start calls P Q f g = record { more = g.more; log = g.log; durable = g.durable; did = g.did; is = g.is; is_so = f g.log g.durable g.is_so }
+
+  -- a log that is ended
+  pub closes : (old new : LogFile S) (first : List ℕ) (start : ℕ) (calls : List FileCall) (P : List (List ℕ) → ℕ → Type 0) → GoesOn reads writes syncs old new first start calls P
+      → GoesOn reads writes syncs old (record { store = new.store; size = new.size; end = new.end; next = new.next; is_ended = true }) first start calls P
+  closes old new first start calls P g = record {
+    more = g.more;
+    log = g.log;
+    durable = g.durable;
+    did = g.did;
+    is = record { life = ends new.is_ended g.is.life; positive = g.is.positive; size = g.is.size; end = λ no. absurd (cc); next = λ no. absurd (cc) };
+    is_so = g.is_so;
+  }
+    where
+      ends : (b : Bool) → LogLife first start (not b) (g.more ++ calls) g.log g.durable → LogLife first start false (g.more ++ calls) g.log g.durable
+      ends true life = life
+      ends false life = closed life
 
   pub then : (old mid new : LogFile S) (first : List ℕ) (start : ℕ) (calls : List FileCall) (P Q : List (List ℕ) → ℕ → Type 0)
       → (g : GoesOn reads writes syncs old mid first start calls P) → GoesOn reads writes syncs mid new first start (g.more ++ calls) Q → GoesOn reads writes syncs old new first start calls Q
@@ -180,3 +198,33 @@ module _ {S : Type 0} (reads writes : Transfer S) (syncs : StoreSync S) where
             then old s5 s6 first start before (λ log durable. (durable ≡ 0) × (log ≡ head ∷ [])) (λ log durable. (log ≡ head ∷ []) × (durable ≡ 1)) both
             (weaken s5 s6 first start (both.more ++ before) (λ log durable. (log ≡ both.log) × (durable ≡ length both.log)) (λ log durable. (log ≡ head ∷ []) × (durable ≡ 1))
             (λ log durable p. (p.0 ∙ both.is_so.1, p.1 ∙ ap (λ (t : List (List ℕ)). length t) both.is_so.1)) (syncs-well first start both.durable (both.more ++ before) both.log s5 both.is s6 e gave ended size end next))
+
+-- ---- a file that is written again
+
+module _ {S : Type 0} (reads writes : Transfer S) (syncs : StoreSync S) (old mid new : S) (bytes again : List ℕ) (same : bytes ≡ again) where
+  abbrev Led : S → Bool → Type 0
+  Led after good = (calls : List FileCall) × FileDid reads writes syncs old calls after × Settles again calls good
+
+  pub settles-not : (r : Result (Unit {0}) LogFault) → IsErr r → Led old (is_ok r)
+  settles-not r e = subst (λ (b : Bool). Led old b) (not-ok r e) ([], refl, settles_nothing)
+    where
+      not-ok : (x : Result (Unit {0}) LogFault) → IsErr x → false ≡ is_ok x
+      not-ok (Ok x) h = cc
+      not-ok (Err x) h = refl
+
+  pub settles-partly : (r : Result (Unit {0}) LogFault) → IsErr r → writes old 0 bytes false mid → Led mid (is_ok r)
+  settles-partly r e gave = subst (λ (b : Bool). Led mid b) (not-ok r e) (Again again false ∷ [], (old, refl, subst (λ (t : List ℕ). writes old 0 t false mid) same gave), settles_unwritten)
+    where
+      not-ok : (x : Result (Unit {0}) LogFault) → IsErr x → false ≡ is_ok x
+      not-ok (Ok x) h = cc
+      not-ok (Err x) h = refl
+
+  pub settles-unsynced : (r : Result (Unit {0}) LogFault) → IsErr r → writes old 0 bytes true mid → syncs mid false new → Led new (is_ok r)
+  settles-unsynced r e gave synced = subst (λ (b : Bool). Led new b) (not-ok r e) (Sync false ∷ Again again true ∷ [], (mid, (old, refl, subst (λ (t : List ℕ). writes old 0 t true mid) same gave), synced), settles_synced false)
+    where
+      not-ok : (x : Result (Unit {0}) LogFault) → IsErr x → false ≡ is_ok x
+      not-ok (Ok x) h = cc
+      not-ok (Err x) h = refl
+
+  pub settles-synced : (good : Bool) → writes old 0 bytes true mid → syncs mid good new → Led new good
+  settles-synced good gave synced = (Sync good ∷ Again again true ∷ [], (mid, (old, refl, subst (λ (t : List ℕ). writes old 0 t true mid) same gave), synced), settles_synced good)

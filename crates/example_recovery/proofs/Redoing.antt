@@ -164,42 +164,42 @@ module _ (tears : Bool) (size from : ℕ) (log : List LogRecord) (wanted first :
 
   -- ---- and in the end each page is what is wanted
 
-  record Stands (n p : ℕ) (image : List ℕ) : Type 0 where
+  record Stands (f : ℕ → List ℕ) (n p : ℕ) (image : List ℕ) : Type 0 where
     done : p < n → image ≡ wanted p
-    kept : n ≤ p → image ≡ first p
+    kept : n ≤ p → image ≡ f p
 
-  unread : (q : ℕ) (calls older : List DeviceCall) (result : Result (List ℕ) Refusal) → Begins size from log q calls result → (p : ℕ) (image : List ℕ) → MayBring tears first (calls ++ older) p image → MayBring tears first older p image
-  unread q _ older _ (anew full long) p image h = h
-  unread q _ older _ (read long) p image h = h
-  unread q _ older _ not_read p image h = h
-  unread q _ older _ no_memory p image h = h
+  unread : (f : ℕ → List ℕ) (q : ℕ) (calls older : List DeviceCall) (result : Result (List ℕ) Refusal) → Begins size from log q calls result → (p : ℕ) (image : List ℕ) → MayBring tears f (calls ++ older) p image → MayBring tears f older p image
+  unread f q _ older _ (anew full long) p image h = h
+  unread f q _ older _ (read long) p image h = h
+  unread f q _ older _ not_read p image h = h
+  unread f q _ older _ no_memory p image h = h
 
-  wanted-none : (p : ℕ) → records_from from log p ≡ [] → first p ≡ wanted p
-  wanted-none p empty = sym (ap (λ rs. put rs (first p)) empty) ∙ m.leads p
+  wanted-none : (f : ℕ → List ℕ) → MayBeRedone tears size from log wanted f → (p : ℕ) → records_from from log p ≡ [] → f p ≡ wanted p
+  wanted-none f l p empty = sym (ap (λ rs. put rs (f p)) empty) ∙ l.leads p
 
-  stand-one : (n : ℕ) (calls older : List DeviceCall) → Redoes size from log n calls true → EachWrite Right older
-      → ((p : ℕ) (image : List ℕ) → MayBring tears first older p image → Stands n p image) → Honest tears first (calls ++ older)
-      → (p : ℕ) (image : List ℕ) → MayBring tears first (calls ++ older) p image → Stands (n + 1) p image
-  stand-one n _ older (no_record empty) each before honest p image h =
+  stand-one : (f : ℕ → List ℕ) → MayBeRedone tears size from log wanted f → (n : ℕ) (calls older : List DeviceCall) → Redoes size from log n calls true → EachWrite Right older
+      → ((p : ℕ) (image : List ℕ) → MayBring tears f older p image → Stands f n p image) → Honest tears first (calls ++ older)
+      → (p : ℕ) (image : List ℕ) → MayBring tears f (calls ++ older) p image → Stands f (n + 1) p image
+  stand-one f l n _ older (no_record empty) each before honest p image h =
       let b = before p image h in
       record {
         done = λ lt. elim (cases_lt p n) [
           | inl below ↦ b.done below
-          | inr above ↦ (let same : n ≡ p = omega arith in b.kept above ∙ wanted-none p (subst (λ q. records_from from log q ≡ []) same empty))
+          | inr above ↦ (let same : n ≡ p = omega arith in b.kept above ∙ wanted-none f l p (subst (λ q. records_from from log q ≡ []) same empty))
         ];
         kept = λ le. b.kept (omega arith);
       }
-  stand-one n _ older (written {calls = calls} {image = made} _ b told fit) each before honest p image h = go (n == p) refl h
+  stand-one f l n _ older (written {calls = calls} {image = made} _ b told fit) each before honest p image h = go (n == p) refl h
     where
       right : Right n (redo from log n made)
       right = makes n made (begun-good n calls older made b each honest) told fit
 
-      go : (t : Bool) → (n == p) ≡ t → MatchBool t (image ≡ redo from log n made) (MayBring tears first (calls ++ older) p image) → Stands (n + 1) p image
+      go : (t : Bool) → (n == p) ≡ t → MatchBool t (image ≡ redo from log n made) (MayBring tears f (calls ++ older) p image) → Stands f (n + 1) p image
       go true e k =
           let same = eqb-true n p e in
           record { done = λ lt. k ∙ right.same ∙ ap wanted same; kept = λ le. absurd (omega arith) }
       go false e k =
-          let was = before p image (unread n calls older (Ok made) b p image k) in
+          let was = before p image (unread f n calls older (Ok made) b p image k) in
           record { done = λ lt. was.done (elsewhere e lt); kept = λ le. was.kept (omega arith) }
         where
           elsewhere : (n == p) ≡ false → p < n + 1 → p < n
@@ -208,10 +208,10 @@ module _ (tears : Bool) (size from : ℕ) (log : List LogRecord) (wanted first :
             | inr above ↦ (let same : n ≡ p = omega arith in let here : (n == p) ≡ true = eq-eqb n p same in absurd (cc))
           ]
 
-  stand : (n : ℕ) (calls : List DeviceCall) → RedoesEach size from log n calls → Honest tears first calls → (p : ℕ) (image : List ℕ) → MayBring tears first calls p image → Stands n p image
-  stand _ _ no_page honest p image h = record { done = λ lt. absurd (omega arith); kept = λ le. h }
-  stand _ _ (next {p = n} {calls = calls} {older = older} before here) honest p image h =
-      (let so_far = honest-older tears first calls older honest in stand-one n calls older here (steps n older before so_far) (stand n older before so_far) honest p image h)
+  stand : (f : ℕ → List ℕ) → MayBeRedone tears size from log wanted f → (n : ℕ) (calls : List DeviceCall) → RedoesEach size from log n calls → Honest tears first calls → (p : ℕ) (image : List ℕ) → MayBring tears f calls p image → Stands f n p image
+  stand f l _ _ no_page honest p image h = record { done = λ lt. absurd (omega arith); kept = λ le. h }
+  stand f l _ _ (next {p = n} {calls = calls} {older = older} before here) honest p image h =
+      (let so_far = honest-older tears first calls older honest in stand-one f l n calls older here (steps n older before so_far) (stand f l n older before so_far) honest p image h)
 
   begun-syncs : (p : ℕ) (calls older : List DeviceCall) (result : Result (List ℕ) Refusal) → Begins size from log p calls result → some sync_failed older ≡ false → some sync_failed (calls ++ older) ≡ false
   begun-syncs p _ older _ (anew full long) h = h
@@ -227,32 +227,32 @@ module _ (tears : Bool) (size from : ℕ) (log : List LogRecord) (wanted first :
       go _ (no_record empty) h = h
       go _ (written {calls = cs} {image = image} _ b told fit) h = begun-syncs p cs older (Ok image) b h
 
-  synced : (n : ℕ) (calls : List DeviceCall) → RedoesEach size from log n calls → Honest tears first calls → IsRedone tears n wanted first (Sync true ∷ calls)
-  synced n calls each honest = record {
-    reads = λ p image lt h. (stand n calls each honest p image h).done lt;
-    durable = λ p image lt h. (stand n calls each honest p image
-        (subst (λ (b : Bool). MatchBool (true && not b) (MayBring tears first calls p image) (MayLeave tears first calls p image)) (no-syncs n calls each) h)).done lt;
+  synced : (f : ℕ → List ℕ) → MayBeRedone tears size from log wanted f → (n : ℕ) (calls : List DeviceCall) → RedoesEach size from log n calls → Honest tears first calls → IsRedone tears n wanted first f (Sync true ∷ calls)
+  synced f l n calls each honest = record {
+    reads = λ p image lt h. (stand first m n calls each honest p image h).done lt;
+    durable = λ p image lt h. (stand f l n calls each honest p image
+        (subst (λ (b : Bool). MatchBool (true && not b) (MayBring tears f calls p image) (MayLeave tears f calls p image)) (no-syncs n calls each) h)).done lt;
   }
 
 -- ---- redo of a device
 
 pub stopped-at : (pages size from : ℕ) (log : List LogRecord) (p : ℕ) (calls older : List DeviceCall) → RedoesEach size from log p older → Redoes size from log p calls false → Recovers pages size from log (calls ++ older) false
-stopped-at pages size from log p calls older before here = λ tears wanted first m honest. (
-  moments tears size from log wanted first m (calls ++ older)
-      (step tears size from log wanted first m p calls older false here (steps tears size from log wanted first m p older before (honest-older tears first calls older honest)) honest),
+stopped-at pages size from log p calls older before here = λ tears wanted seen first m l honest. (
+  moments tears size from log wanted first l (calls ++ older)
+      (step tears size from log wanted seen m p calls older false here (steps tears size from log wanted seen m p older before (honest-older tears seen calls older honest)) honest),
   λ no. absurd (cc),
 )
 
 pub unsynced : (pages size from : ℕ) (log : List LogRecord) (calls : List DeviceCall) → RedoesEach size from log pages calls → Recovers pages size from log (Sync false ∷ calls) false
-unsynced pages size from log calls each = λ tears wanted first m honest. (
-  moments tears size from log wanted first m (Sync false ∷ calls) (steps tears size from log wanted first m pages calls each honest),
+unsynced pages size from log calls each = λ tears wanted seen first m l honest. (
+  moments tears size from log wanted first l (Sync false ∷ calls) (steps tears size from log wanted seen m pages calls each honest),
   λ no. absurd (cc),
 )
 
 pub done : (pages size from : ℕ) (log : List LogRecord) (calls : List DeviceCall) → RedoesEach size from log pages calls → Recovers pages size from log (Sync true ∷ calls) true
-done pages size from log calls each = λ tears wanted first m honest. (
-  moments tears size from log wanted first m (Sync true ∷ calls) (steps tears size from log wanted first m pages calls each honest),
-  λ yes. synced tears size from log wanted first m pages calls each honest,
+done pages size from log calls each = λ tears wanted seen first m l honest. (
+  moments tears size from log wanted first l (Sync true ∷ calls) (steps tears size from log wanted seen m pages calls each honest),
+  λ yes. synced tears size from log wanted seen m first l pages calls each honest,
 )
 
 -- ---- the functions' answers

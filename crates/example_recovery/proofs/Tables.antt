@@ -19,10 +19,10 @@ use Rattle.bp_trail.specs.Recovery.GaveBack.{from_opening}
 use Rattle.bp_trail.proofs.Bytes.{ordered-zero}
 use Rattle.bp_trail.proofs.Redoing.{recovers-ordered}
 use Rattle.bp_trail.proofs.Crashes.{image-length, redo-whole}
-use Rattle.example_recovery.specs.Commits.{HasCommits, Kept, AreChanges, AreCommits, changes_of}
+use Rattle.example_recovery.specs.Commits.{HasCommits, Kept, AreChanges, AreCommits, changes_of, log_of}
 use Rattle.example_recovery.specs.Disk.{DeviceCall, Honest, MayLeave}
 use Rattle.example_recovery.specs.Files.{FileCall, FileLeaves, synced as synced_bytes, written as written_bytes}
-use Rattle.example_recovery.specs.Lives.{TellsTrue}
+use Rattle.example_recovery.specs.Lives.{Reopened, TellsTrue}
 use Rattle.example_recovery.specs.Promise.{IsMended, MayBeRedone}
 use Rattle.example_recovery.specs.PoolLives.{IsSound}
 use Rattle.example_recovery.specs.Tables.{writes_of, TableRan}
@@ -146,12 +146,12 @@ every-zero : (rs : List LogRecord) → every (λ r. nat_le 0 r.lsn) rs ≡ true
 every-zero [] = refl
 every-zero (r ∷ rs) = ap (λ (b : Bool). b && every (λ x. nat_le 0 x.lsn) rs) (le-leb 0 r.lsn (omega arith)) ∙ every-zero rs
 
-module _ (c : Parameters) (tears : Bool) (first left : ℕ → List ℕ) (table file left_file : List ℕ) (start : ℕ) (alive : Bool) (past synced : Trail) (calls : List DeviceCall) (log_calls : List FileCall) (commits : List (List LogRecord)) (durables found last : ℕ) (changes pending : List LogRecord)
-    (ran : TableRan c table file start alive past synced calls log_calls commits durables pending) (honestly : Honest tears first calls) (sized : (p : ℕ) → length (first p) ≡ c.size)
-    (file_left : FileLeaves file log_calls left_file) (tells : TellsTrue start (synced_bytes file log_calls) (written_bytes file log_calls) left_file)
+module _ (c : Parameters) (tears : Bool) (first left : ℕ → List ℕ) (table file left_file : List ℕ) (start : ℕ) (alive : Bool) (past synced : Trail) (calls : List DeviceCall) (log_calls : List FileCall) (commits : List (List LogRecord)) (durables found last : ℕ) (changes pending : List LogRecord) (later : List FileCall) (read : List (List ℕ)) (n : ℕ)
+    (ran : TableRan c table file start alive past synced calls log_calls commits durables pending) (reopened : Reopened file start log_calls (log_of table commits) durables later read n) (honestly : Honest tears first calls) (sized : (p : ℕ) → length (first p) ≡ c.size)
+    (file_left : FileLeaves file later left_file) (tells : TellsTrue start (synced_bytes file later) (written_bytes file later) left_file)
     (leaves : (p : ℕ) → MayLeave tears first calls p (left p)) (has : HasCommits table left_file found last changes) (sound : (p : ℕ) → IsSound tears c.size 0 (reverse changes) calls p) where
   pub whole : Kept start durables commits found last changes
-  whole = whole-commits table file left_file start durables alive log_calls commits found last changes ran.log ran.are file_left tells has
+  whole = whole-commits table file left_file start durables alive log_calls later commits read n found last changes ran.log ran.are reopened file_left tells has
 
   abbrev log : List LogRecord
   log = reverse changes

@@ -1,14 +1,16 @@
 -- A file of bytes, by the calls that were made of it: what was written, and what a crash may leave.
 -- Each list of calls is newest first.
-use Rattle.std.specs.Prelude.{◌≡◌, ◌⊎◌, ℕ, ◌+◌, ◌<◌, ◌≤◌, Bool, false, not, ◌&&◌, ◌||◌, if◌then◌else◌, List, [], ◌∷◌, length, slice_index}
+use Rattle.std.specs.Prelude.{◌≡◌, ◌⊎◌, ℕ, ◌+◌, ◌<◌, ◌≤◌, Bool, true, false, not, ◌&&◌, ◌||◌, if◌then◌else◌, List, [], ◌∷◌, length, slice_index}
 use Rattle.std.specs.Bool.{MatchBool}
 use Rattle.bp_page.specs.Patched.{patched}
 use Rattle.bp_ports.specs.Files.{Transfer, StoreSync}
 
--- a read of these bytes, and a write of them, from a byte on, and a sync, that was good or not
+-- a read of these bytes, and a write of them, from a byte on, and a sync, that was good or not. And a
+-- write of the whole file, with the records that were read of it and zeros behind them
 pub data FileCall : Type 0 where
   Read : ℕ → List ℕ → Bool → FileCall
   Write : ℕ → List ℕ → Bool → FileCall
+  Again : List ℕ → Bool → FileCall
   Sync : Bool → FileCall
 
 -- what a store says of one call, and that these calls led from it, as it was, to it, as it is
@@ -17,6 +19,7 @@ FileDoes reads writes syncs store (FileCall.Read start bytes good) after =
     reads store start bytes good after
 FileDoes reads writes syncs store (FileCall.Write start bytes good) after =
     writes store start bytes good after
+FileDoes reads writes syncs store (FileCall.Again bytes good) after = writes store 0 bytes good after
 FileDoes reads writes syncs store (FileCall.Sync good) after = syncs store good after
 
 abbrev pub FileDid : {S : Type 0} → Transfer S → Transfer S → StoreSync S → S → List FileCall → S → Type 0
@@ -25,10 +28,11 @@ FileDid {S} reads writes syncs store (call ∷ older) after =
     (between : S) × FileDid reads writes syncs store older between
     × FileDoes reads writes syncs between call after
 
--- some write or sync failed
+-- some write or sync failed, and the file was not written again as a whole since
 abbrev pub failed : List FileCall → Bool
 failed [] = false
 failed (FileCall.Write start bytes good ∷ older) = not good || failed older
+failed (FileCall.Again bytes good ∷ older) = not good
 failed (FileCall.Sync good ∷ older) = not good || failed older
 failed (_ ∷ older) = failed older
 
@@ -36,6 +40,7 @@ failed (_ ∷ older) = failed older
 abbrev pub written : List ℕ → List FileCall → List ℕ
 written first [] = first
 written first (FileCall.Write start bytes good ∷ older) = patched start bytes (written first older)
+written first (FileCall.Again bytes good ∷ older) = patched 0 bytes (written first older)
 written first (_ ∷ older) = written first older
 
 -- a good sync makes durable all that was written, unless a call had failed before it
@@ -49,7 +54,7 @@ synced first (FileCall.Sync good ∷ older) =
     if settles good older then written first older else synced first older
 synced first (_ ∷ older) = synced first older
 
--- byte i was written since
+-- byte i was written since. A file that is written again as it was read keeps the bytes that were sure
 abbrev pub Unsure : List FileCall → ℕ → Type 0
 Unsure [] i = ⊥
 Unsure (FileCall.Write start bytes good ∷ older) i =
@@ -63,3 +68,20 @@ pub record FileLeaves (first : List ℕ) (calls : List FileCall) (left : List �
   pub long : length left ≡ length first
   pub each : (i : ℕ) → i < length left →
       (slice_index left i ≡ slice_index (synced first calls) i) ⊎ Unsure calls i
+
+-- the file was written again with these bytes, and synced, and then only written again with the same
+pub data IsSettled (first bytes : List ℕ) : List FileCall → Type 0 where
+  settled : {before : List FileCall} → length (written first before) ≡ length bytes
+      → IsSettled first bytes (FileCall.Sync true ∷ FileCall.Again bytes true ∷ before)
+  again : {calls : List FileCall} (good : Bool) → IsSettled first bytes calls
+      → IsSettled first bytes (FileCall.Again bytes good ∷ calls)
+  resynced : {calls : List FileCall} (good : Bool) → IsSettled first bytes calls
+      → IsSettled first bytes (FileCall.Sync good ∷ calls)
+
+-- what is left of such a file
+pub record SettledLeaves (bytes left : List ℕ) : Type 0 where
+  pub first : List ℕ
+  pub calls : List FileCall
+  pub long : length first ≡ length bytes
+  pub settled : IsSettled first bytes calls
+  pub leaves : FileLeaves first calls left

@@ -12,6 +12,7 @@ pub mod Lives
 pub mod LogFiles
 -- Commits as records of a log.
 pub mod Commits
+pub mod Heads
 -- What a pool had its device do.
 pub mod PoolLives
 -- A table, as its calls leave it.

@@ -1,12 +1,12 @@
 -- The life of a log in a file, and what is read of it after a crash. A log is oldest first, and its
 -- records have LSNs that go up by one.
-use Rattle.std.specs.Prelude.{◌≡◌, ◌⊎◌, ℕ, ◌+◌, ◌≤◌, Bool, true, false, List, [], ◌∷◌, ◌++◌, length, take, drop, replicate}
+use Rattle.std.specs.Prelude.{◌≡◌, ◌⊎◌, ℕ, ◌+◌, ◌-◌, ◌≤◌, Bool, true, false, if◌then◌else◌, List, [], ◌∷◌, ◌++◌, length, take, drop, replicate}
 use Rattle.example_recovery.specs.Frames.{frame, frames, IsRecord, NoFrame}
-use Rattle.example_recovery.specs.Files.{FileCall, failed, written}
+use Rattle.example_recovery.specs.Files.{FileCall, FileLeaves, failed, synced as synced_bytes, written}
 
 -- The calls of a log that begins at an LSN, its records, and how many of them were synced: the file
 -- is wiped, and then a record is put behind the last one, or the file is synced. After a call that
--- failed there is none.
+-- failed there is none, nor once the log is ended.
 pub data LogLife (first : List ℕ) (start : ℕ) : Bool → List FileCall → List (List ℕ) → ℕ → Type 0 where
   wiped : {before : List FileCall} → failed before ≡ false → length (written first before) ≡ length first
       → LogLife first start true
@@ -23,6 +23,8 @@ pub data LogLife (first : List ℕ) (start : ℕ) : Bool → List FileCall → L
   unsynced : {calls : List FileCall} {log : List (List ℕ)} {durable : ℕ}
       → LogLife first start true calls log durable
       → LogLife first start false (FileCall.Sync false ∷ calls) log durable
+  closed : {calls : List FileCall} {log : List (List ℕ)} {durable : ℕ}
+      → LogLife first start true calls log durable → LogLife first start false calls log durable
 
 abbrev pub AreRecords : ℕ → List (List ℕ) → Type 0
 AreRecords lsn [] = Unit {0}
@@ -47,3 +49,24 @@ TellsTrue start durable last left =
     → left ≡ frames start before ++ (frame lsn payload ++ rest)
     → SameAt (length (frames start before)) (length (frame lsn payload)) left durable
     ⊎ SameAt (length (frames start before)) (length (frame lsn payload)) left last
+
+-- these records from the first byte of a file on, and zeros behind them
+abbrev pub whole : ℕ → ℕ → List (List ℕ) → List ℕ
+whole size start log = frames start log ++ replicate (size - length (frames start log)) 0
+
+-- The calls of the file since then, if its process ended and the system went on. An opening reads
+-- whatever a crash might leave: it writes the records that it read again, and syncs. It may end at any
+-- moment, and another one comes. The log is then what was read last, with so many durable records.
+pub data Reopened (first : List ℕ) (start : ℕ) (calls : List FileCall) (log : List (List ℕ)) (durable : ℕ)
+    : List FileCall → List (List ℕ) → ℕ → Type 0 where
+  ended : Reopened first start calls log durable calls log durable
+  again : {later : List FileCall} {found : List (List ℕ)} {n : ℕ} (bytes : List ℕ)
+      (kept : List (List ℕ)) (good : Bool) → Reopened first start calls log durable later found n
+      → FileLeaves first later bytes → TellsTrue start (synced_bytes first later) (written first later) bytes
+      → IsRead start kept bytes → Reopened first start calls log durable
+      (FileCall.Again (whole (length first) start kept) good ∷ later) kept n
+  synced : {later : List FileCall} {found : List (List ℕ)} {n : ℕ} (bytes : List ℕ) (good : Bool)
+      → Reopened first start calls log durable (FileCall.Again bytes true ∷ later) found n
+      → Reopened first start calls log durable
+      (FileCall.Sync good ∷ FileCall.Again bytes true ∷ later) found
+      (if good then length found else n)

@@ -42,6 +42,12 @@ pub data Wipes (size : ℕ) : List FileCall → Type 0 where
   wrote : (good : Bool) → Wipes size (FileCall.Write 0 (replicate size 0) good ∷ [])
   unsynced : Wipes size (FileCall.Sync false ∷ FileCall.Write 0 (replicate size 0) true ∷ [])
 
+-- the calls by which a file is written again and synced, some of them or all
+pub data Settles (bytes : List ℕ) : List FileCall → Bool → Type 0 where
+  nothing : Settles bytes [] false
+  unwritten : Settles bytes (FileCall.Again bytes false ∷ []) false
+  synced : (good : Bool) → Settles bytes (FileCall.Sync good ∷ FileCall.Again bytes true ∷ []) good
+
 -- a log that was begun with one record, durably, or why not: the file was not wiped durably; or the
 -- life has begun
 abbrev pub Begins : {S : Type 0} → Transfer S → Transfer S → StoreSync S → LogFile S → LogFile S

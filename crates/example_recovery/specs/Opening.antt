@@ -1,17 +1,22 @@
 -- An opening: which of two files has the log, and what is done with pages and files.
-use Rattle.std.specs.Prelude.{◌≡◌, ◌⊎◌, ℕ, ◌+◌, ◌<◌, ◌≤◌, Bool, true, false, Result, IfOk, List, [], ◌∷◌, ◌++◌, length, reverse}
+use Rattle.std.specs.Prelude.{◌≡◌, ◌≢◌, ◌⊎◌, ℕ, ◌+◌, ◌<◌, ◌≤◌, Bool, true, false, Result, Err, IfOk, IfErr, ◌-◌, ◌^◌, List, [], ◌∷◌, ◌++◌, length, reverse}
 use Rattle.std.specs.Result.{IsErr, is_ok}
 use Rattle.bp_page.specs.declared.limits.Geometry.{Geometry}
 use Rattle.bp_ports.specs.Files.{Transfer, StoreSync}
 use Rattle.bp_trail.specs.declared.records.LogRecord.{LogRecord}
 use Rattle.example_recovery.specs.declared.log.LogFile.{LogFile}
-use Rattle.example_recovery.specs.declared.reading.FoundLog.{FoundLog}
-use Rattle.example_recovery.specs.Commits.{HasCommits}
+use Rattle.example_recovery.specs.declared.log.LogFault.{LogFault}
+use Rattle.example_recovery.specs.declared.log.LogFault.TheVariants.{Memory, Device, Full, HasLog, OtherSize, TwoLogs}
+use Rattle.example_recovery.specs.declared.table.TableFault.{TableFault}
+use Rattle.example_recovery.specs.declared.table.TableFault.TheVariants.{Log, Pages}
+use Rattle.bp_page.specs.declared.refusals.Refusal.TheVariants.{OutOfPage}
+use Rattle.example_recovery.specs.Heads.{OtherHead, ReadFault}
+use Rattle.example_recovery.specs.Commits.{HasCommits, log_of}
 use Rattle.example_recovery.specs.Disk.{DeviceCall, Reads, Writes, Syncs, Did}
-use Rattle.example_recovery.specs.Files.{FileCall, FileDid}
-use Rattle.example_recovery.specs.Frames.{IsRecord, frame}
-use Rattle.example_recovery.specs.Lives.{LogLife}
-use Rattle.example_recovery.specs.LogFiles.{IsLogFile, Wipes}
+use Rattle.example_recovery.specs.Files.{FileCall, FileDid, failed, written}
+use Rattle.example_recovery.specs.Frames.{IsRecord, NoFrame, frame}
+use Rattle.example_recovery.specs.Lives.{LogLife, Reopened, whole}
+use Rattle.example_recovery.specs.LogFiles.{IsLogFile, Settles, Wipes}
 use Rattle.example_recovery.specs.Promise.{MayBeRedone, Recovers}
 
 -- ---- which of two files has the log
@@ -47,59 +52,93 @@ AreWithin pages size [] = Unit {0}
 AreWithin pages size (r ∷ later) =
     (r.page < pages) × (r.offset + length r.bytes ≤ size) × AreWithin pages size later
 
--- all commits of the newer of two files were redone; or some pages of them
-pub record Redid {P : Type 0} (reads : Reads P) (writes : Writes P) (syncs : Syncs P)
-    (device : Geometry) (table newer older : List ℕ) (old : P) (done : Bool) (new : P)
-    : Type 0 where
+-- what is found in the newer of two files: its commits, of which each change lies within a page
+pub record Found (device : Geometry) (table newer older : List ℕ) : Type 0 where
   pub first : ℕ
   pub last : ℕ
   pub changes : List LogRecord
-  pub calls : List DeviceCall
   pub is_newer : IsNewer table newer older first last changes
   pub within : AreWithin device.pages device.size changes
+
+-- these were redone; or some pages of them
+pub record Redid {P : Type 0} (reads : Reads P) (writes : Writes P) (syncs : Syncs P)
+    (device : Geometry) (changes : List LogRecord) (old : P) (done : Bool) (new : P) : Type 0 where
+  pub calls : List DeviceCall
   pub did : Did reads writes syncs old calls new
   pub recovers : Recovers device.pages device.size 0 (reverse changes) calls done
 
--- nothing was done, or this was redone and found
-abbrev pub RedoesLog : {P E : Type 0} → Reads P → Writes P → Syncs P → Geometry → List ℕ → List ℕ
-    → List ℕ → P → Result FoundLog E → P → Type 0
-RedoesLog reads writes syncs device table newer older old result new =
-    (IsErr result × (new ≡ old))
-    ⊎ ((r : Redid reads writes syncs device table newer older old (is_ok result) new)
-    × IfOk result (λ found. (found.first ≡ r.first) × (found.last ≡ r.last)
-    × (found.changes.items ≡ r.changes)))
+-- ---- what is done with the files
 
--- ---- what is done with the file of the older log
+-- the file of the newer log as it is written again, before any page is: its records, and zeros
+abbrev pub again_of : {table newer older : List ℕ} {first last : ℕ} {changes : List LogRecord}
+    → IsNewer table newer older first last changes → List ℕ
+again_of {table} {newer} {older} {first} is = whole (length newer) first (log_of table is.has.commits)
 
--- A log is begun in it that names its table: the file is being wiped, or not yet; or the log has no
--- more than that record.
+-- A log is begun in the other one, which names its table: the file is being wiped, or not yet; or the
+-- log has no more than that record. Openings may have come since then.
 pub data Beginning (file : List ℕ) (start : ℕ) (table : List ℕ) (before : List FileCall)
     : List FileCall → Type 0 where
   wiping : {more : List FileCall} → Wipes (length file) more
       → Beginning file start table before (more ++ before)
-  begun : {alive : Bool} {calls : List FileCall} {log : List (List ℕ)} {durable : ℕ}
+  begun : {alive : Bool} {calls later : List FileCall} {log kept : List (List ℕ)} {durable n : ℕ}
       → LogLife file start alive calls log durable → (log ≡ []) ⊎ (log ≡ table ∷ [])
-      → Beginning file start table before calls
+      → Reopened file start calls log durable later kept n
+      → Beginning file start table before later
 
--- What an opening does: it is refused, with nothing done; or it stops within the redo; or all is
--- redone, and the log is begun anew, in part or durably.
+-- a log is begun in a file, whatever that had, in part or durably
+abbrev pub BeginsLog : {S : Type 0} → Transfer S → Transfer S → StoreSync S → LogFile S → LogFile S
+    → ℕ → List ℕ → Bool → Type 0
+BeginsLog reads writes syncs old new start table good =
+    (file : List ℕ) (before : List FileCall) → failed before ≡ false
+    → length (written file before) ≡ length file → old.size ≡ length file
+    → (more : List FileCall) × FileDid reads writes syncs old.store more new.store
+    × Beginning file start table before (more ++ before)
+    × (good ≡ true → IsLogFile file start (more ++ before) (table ∷ []) 1 new)
+
+-- why an opening is refused before it wrote anything
+pub data MoveFault (device : Geometry) (head newer older : List ℕ) : TableFault → Type 0 where
+  newer_fault : {why : LogFault} → ReadFault head newer why
+      → MoveFault device head newer older (Log why)
+  older_fault : {why : LogFault} → OtherHead head older why
+      → MoveFault device head newer older (Log why)
+  two_logs : {first last : ℕ} {changes : List LogRecord} → HasCommits head newer first last changes
+      → ¬ BeginsBefore first older → MoveFault device head newer older (Log TwoLogs)
+  beyond : {first last : ℕ} {changes : List LogRecord} → HasCommits head newer first last changes
+      → ¬ AreWithin device.pages device.size changes
+      → MoveFault device head newer older (Pages OutOfPage)
+  no_lsn : {first last : ℕ} {changes : List LogRecord} → HasCommits head newer first last changes
+      → last ≡ 2 ^ 64 - 1 → MoveFault device head newer older (Log Full)
+
+-- What an opening does: it is refused, with nothing done; or it writes the newer log again, and that
+-- is not yet durable; or it stops within the redo; or all is redone, and a log is begun in the other
+-- file, in part or durably.
 pub data MovesLog {S P : Type 0} (reads writes : Transfer S) (syncs : StoreSync S)
     (page_reads : Reads P) (page_writes : Writes P) (page_syncs : Syncs P) (device : Geometry)
-    (table newer older : List ℕ) (before : List FileCall) (old : P) (old_log : LogFile S)
-    : Bool → P → LogFile S → Type 0 where
-  refused : MovesLog reads writes syncs page_reads page_writes page_syncs device table newer older
-      before old old_log false old old_log
-  stopped : {new : P} (done : Bool)
-      → Redid page_reads page_writes page_syncs device table newer older old done new
+    (table newer older : List ℕ) (old : P) (old_newer old_older : LogFile S)
+    : Result (Unit {0}) TableFault → P → LogFile S → LogFile S → Type 0 where
+  refused : (why : TableFault) → MoveFault device table newer older why
       → MovesLog reads writes syncs page_reads page_writes page_syncs device table newer older
-      before old old_log false new old_log
-  moved : {new : P} {new_log : LogFile S} (more : List FileCall) (good : Bool)
-      → (r : Redid page_reads page_writes page_syncs device table newer older old true new)
-      → FileDid reads writes syncs old_log.store more new_log.store
-      → Beginning older (r.last + 1) table before (more ++ before)
-      → (good ≡ true → IsLogFile older (r.last + 1) (more ++ before) (table ∷ []) 1 new_log)
+      old old_newer old_older (Err why) old old_newer old_older
+  unsettled : {new_newer : LogFile S} (f : Found device table newer older) (calls : List FileCall)
+      (why : TableFault) → FileDid reads writes syncs old_newer.store calls new_newer.store
+      → Settles (again_of f.is_newer) calls false
       → MovesLog reads writes syncs page_reads page_writes page_syncs device table newer older
-      before old old_log good new new_log
+      old old_newer old_older (Err why) old new_newer old_older
+  stopped : {new : P} {new_newer : LogFile S} (f : Found device table newer older)
+      (calls : List FileCall) (done : Bool) (why : TableFault)
+      → FileDid reads writes syncs old_newer.store calls new_newer.store
+      → Settles (again_of f.is_newer) calls true
+      → Redid page_reads page_writes page_syncs device f.changes old done new
+      → MovesLog reads writes syncs page_reads page_writes page_syncs device table newer older
+      old old_newer old_older (Err why) new new_newer old_older
+  moved : {new : P} {new_newer new_older : LogFile S} (f : Found device table newer older)
+      (calls : List FileCall) (result : Result (Unit {0}) TableFault)
+      → FileDid reads writes syncs old_newer.store calls new_newer.store
+      → Settles (again_of f.is_newer) calls true
+      → Redid page_reads page_writes page_syncs device f.changes old true new
+      → BeginsLog reads writes syncs old_older new_older (f.last + 1) table (is_ok result)
+      → MovesLog reads writes syncs page_reads page_writes page_syncs device table newer older
+      old old_newer old_older result new new_newer new_older
 
 -- these calls wrote nothing
 abbrev pub AreReads : List FileCall → Type 0
@@ -112,29 +151,58 @@ abbrev pub IsOnlyRead : {S : Type 0} → Transfer S → Transfer S → StoreSync
 IsOnlyRead reads writes syncs old new =
     (calls : List FileCall) × FileDid reads writes syncs old.store calls new.store × AreReads calls
 
+-- What the making of a table does: it is refused, with nothing written, where a file is not read, or
+-- where a record stands at the front of one; or a log is begun in the first, in part or durably.
+pub data CreatesLog {S : Type 0} (reads writes : Transfer S) (syncs : StoreSync S) (head : List ℕ)
+    (one two : LogFile S) : Result (Unit {0}) LogFault → LogFile S → LogFile S → Type 0 where
+  unread : {new_one new_two : LogFile S} (why : LogFault) → (why ≡ Memory) ⊎ (why ≡ Device)
+      → IsOnlyRead reads writes syncs one new_one → IsOnlyRead reads writes syncs two new_two
+      → CreatesLog reads writes syncs head one two (Err why) new_one new_two
+  has_log : {new_one new_two : LogFile S} (a b : List ℕ) → reads one.store 0 a true new_one.store
+      → reads two.store 0 b true new_two.store → ¬ NoFrame a ⊎ ¬ NoFrame b
+      → CreatesLog reads writes syncs head one two (Err HasLog) new_one new_two
+  begun : {new_one new_two : LogFile S} (mid : LogFile S) (a b : List ℕ) (result : Result (Unit {0}) LogFault)
+      → reads one.store 0 a true mid.store → reads two.store 0 b true new_two.store
+      → NoFrame a → NoFrame b → BeginsLog reads writes syncs mid new_one 1 head (is_ok result)
+      → CreatesLog reads writes syncs head one two result new_one new_two
+
 -- both files were read, and the log goes on in that of the older one, which is the second or not
-pub record Moves {S P E : Type 0} (reads writes : Transfer S) (syncs : StoreSync S)
+pub record Moves {S P : Type 0} (reads writes : Transfer S) (syncs : StoreSync S)
     (page_reads : Reads P) (page_writes : Writes P) (page_syncs : Syncs P) (device : Geometry)
-    (table : List ℕ) (is_second : Bool) (old : P) (newer older : LogFile S) (result : Result Bool E)
+    (table : List ℕ) (is_second : Bool) (old : P) (newer older : LogFile S) (result : Result Bool TableFault)
     (new : P) (new_newer new_older : LogFile S) : Type 0 where
   pub bytes : List ℕ
   pub other : List ℕ
-  pub mid : LogFile S
-  pub read_newer : reads newer.store 0 bytes true new_newer.store
-  pub read_older : reads older.store 0 other true mid.store
-  pub size : older.size ≡ length other
+  pub mid_newer : LogFile S
+  pub mid_older : LogFile S
+  pub outcome : Result (Unit {0}) TableFault
+  pub read_newer : reads newer.store 0 bytes true mid_newer.store
+  pub read_older : reads older.store 0 other true mid_older.store
+  pub size : (mid_older.size ≡ length other) × (mid_newer.size ≡ length bytes)
   pub moves : MovesLog reads writes syncs page_reads page_writes page_syncs device table bytes other
-      (FileCall.Read 0 other true ∷ []) old mid (is_ok result) new new_older
-  pub told : IfOk result (λ which. which ≡ is_second)
+      old mid_newer mid_older outcome new new_newer new_older
+  pub told : IfOk result (λ which. (which ≡ is_second) × (is_ok outcome ≡ true))
+  pub refused : IfErr result (λ why. outcome ≡ Err why)
+
+-- why an opening does not come to the logs: the files are to have other lengths, there is no memory,
+-- a file fails or is shorter, or another head than the wanted one stands in it
+pub data UnreadFault {S : Type 0} (reads : Transfer S) (head : List ℕ) (one two : LogFile S)
+    : TableFault → Type 0 where
+  sizes : one.size ≢ two.size → UnreadFault reads head one two (Log OtherSize)
+  unread : {why : LogFault} → (why ≡ Memory) ⊎ (why ≡ Device) → UnreadFault reads head one two (Log why)
+  head_of_one : {why : LogFault} (bytes : List ℕ) (after : S) → reads one.store 0 bytes true after
+      → OtherHead head bytes why → UnreadFault reads head one two (Log why)
+  head_of_two : {why : LogFault} (bytes : List ℕ) (after : S) → reads two.store 0 bytes true after
+      → OtherHead head bytes why → UnreadFault reads head one two (Log why)
 
 -- an opening that wrote nothing; or the log goes on in the second file, or in the first
-abbrev pub OpensLog : {S P E : Type 0} → Transfer S → Transfer S → StoreSync S → Reads P → Writes P
-    → Syncs P → Geometry → List ℕ → P → LogFile S → LogFile S → Result Bool E → P → LogFile S
+abbrev pub OpensLog : {S P : Type 0} → Transfer S → Transfer S → StoreSync S → Reads P → Writes P
+    → Syncs P → Geometry → List ℕ → P → LogFile S → LogFile S → Result Bool TableFault → P → LogFile S
     → LogFile S → Type 0
 OpensLog reads writes syncs page_reads page_writes page_syncs device table old one two result new
     new_one new_two =
-    (IsErr result × (new ≡ old) × IsOnlyRead reads writes syncs one new_one
-    × IsOnlyRead reads writes syncs two new_two)
+    (IsErr result × IfErr result (UnreadFault reads table one two) × (new ≡ old)
+    × IsOnlyRead reads writes syncs one new_one × IsOnlyRead reads writes syncs two new_two)
     ⊎ Moves reads writes syncs page_reads page_writes page_syncs device table true old one two
     result new new_one new_two
     ⊎ Moves reads writes syncs page_reads page_writes page_syncs device table false old two one

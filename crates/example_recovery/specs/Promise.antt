@@ -28,21 +28,22 @@ AtEachMoment tears size from log wanted first calls =
     → MayBeRedone tears size from log wanted left
 
 -- each page is what it is to be: reads bring that, and a crash leaves that
-pub record IsRedone (tears : Bool) (pages : ℕ) (wanted first : ℕ → List ℕ)
+pub record IsRedone (tears : Bool) (pages : ℕ) (wanted seen first : ℕ → List ℕ)
     (calls : List DeviceCall) : Type 0 where
-  pub reads : (p : ℕ) (image : List ℕ) → p < pages → MayBring tears first calls p image
+  pub reads : (p : ℕ) (image : List ℕ) → p < pages → MayBring tears seen calls p image
       → image ≡ wanted p
   pub durable : (p : ℕ) (image : List ℕ) → p < pages → MayLeave tears first calls p image
       → image ≡ wanted p
 
 -- What redo of so many pages promises, if each read brings what it may: at each moment it may be cut
--- off, and when it is done each page is what it is to be
+-- off, and when it is done each page is what it is to be. When it began, reads brought `seen`, and a
+-- loss of power would have left `first`, which is another where not all was synced
 abbrev pub Recovers : ℕ → ℕ → ℕ → List LogRecord → List DeviceCall → Bool → Type 0
 Recovers pages size from log calls done =
-    (tears : Bool) (wanted first : ℕ → List ℕ) → MayBeRedone tears size from log wanted first
-    → Honest tears first calls
+    (tears : Bool) (wanted seen first : ℕ → List ℕ) → MayBeRedone tears size from log wanted seen
+    → MayBeRedone tears size from log wanted first → Honest tears seen calls
     → AtEachMoment tears size from log wanted first calls
-    × (done ≡ true → IsRedone tears pages wanted first calls)
+    × (done ≡ true → IsRedone tears pages wanted seen first calls)
 
 -- What a pool leaves of page p where it is stopped: an image that went out whole, or the first one. Or
 -- any bytes, where the log has a full image.

@@ -1,9 +1,11 @@
 -- What each step of redo does with its device. A log is newest first, and so are calls.
-use Rattle.std.specs.Prelude.{◌≡◌, ◌≢◌, ℕ, ◌+◌, Bool, true, false, List, [], ◌∷◌, ◌++◌, length, Result, Ok, Err}
+use Rattle.std.specs.Prelude.{◌≡◌, ◌≢◌, ℕ, ◌+◌, Bool, true, false, List, [], ◌∷◌, ◌++◌, length, map, Result, Ok, Err}
 use Rattle.bp_page.specs.declared.refusals.Refusal.{Refusal}
 use Rattle.bp_trail.specs.declared.records.LogRecord.{LogRecord}
+use Rattle.bp_page.specs.declared.refusals.PortFault.{PortFault}
+use Rattle.bp_trail.specs.Lists.{greatest}
 use Rattle.bp_trail.specs.Recovery.{AllFit, HasFullImage, redo, records_from}
-use Rattle.example_recovery.specs.Disk.{DeviceCall}
+use Rattle.example_recovery.specs.Disk.{DeviceCall, Writes}
 
 -- the image of page p into which its records go: any, where one of them has all bytes, and nothing is
 -- read; else the one that was read
@@ -26,6 +28,16 @@ pub data Redoes (size from : ℕ) (log : List LogRecord) (p : ℕ) : List Device
       → Begins size from log p calls (Ok image) → records_from from log p ≢ []
       → AllFit size (records_from from log p)
       → Redoes size from log p (DeviceCall.Write p (redo from log p image) good ∷ calls) good
+
+-- the greatest LSN of records, or 0
+abbrev pub last_lsn : List LogRecord → ℕ
+last_lsn log = greatest (map (λ r. r.lsn) log)
+
+-- the last call was a write of page p under the greatest LSN of these records
+abbrev pub Stamped : {P : Type 0} → Writes P → ℕ → List LogRecord → P → Type 0
+Stamped {P} writes p log after =
+    (before : P) × (image : List ℕ) × (written : Result (Unit {0}) PortFault)
+    × writes before p image (last_lsn log) written after
 
 -- redo of so many pages, from page 0 on
 pub data RedoesEach (size from : ℕ) (log : List LogRecord) : ℕ → List DeviceCall → Type 0 where

@@ -1,8 +1,8 @@
 //! A log in a file of a fixed length. Its first record names the table.
-ghost use Rattle.std.specs.Prelude.{◌≡◌, ◌⊎◌, ◌+◌, ◌≤◌, ℕ, true, false, List, [], ◌∷◌, ◌++◌, length, IfOk, OnOk, OnErr, is_ok};
-ghost use Rattle.example_recovery.specs.declared.log.LogFault.TheVariants.{Memory};
-ghost use Rattle.example_recovery.specs.Files.{FileCall, failed, written};
-ghost use Rattle.example_recovery.specs.LogFiles.{IsLogFile, EndsOnError, SamePlace, GoesOn, Begins};
+ghost use Rattle.std.specs.Prelude.{◌≡◌, ◌⊎◌, ◌+◌, ◌-◌, ◌≤◌, ℕ, true, false, List, [], ◌∷◌, ◌++◌, length, replicate, IfOk, IfErr, OnOk, OnErr, is_ok};
+ghost use Rattle.example_recovery.specs.declared.log.LogFault.TheVariants.{Memory, Device as FileFailed};
+ghost use Rattle.example_recovery.specs.Files.{FileCall, FileDid, failed, written};
+ghost use Rattle.example_recovery.specs.LogFiles.{IsLogFile, EndsOnError, SamePlace, GoesOn, Begins, Settles};
 
 use crate::frames::put_frame;
 use bp_ports::Store;
@@ -14,7 +14,7 @@ use thiserror::Error;
 pub enum LogFault {
     #[error("there is no memory")]
     Memory,
-    #[error("the file of the log failed")]
+    #[error("the file of the log failed, or is shorter than the log")]
     Device,
     #[error("the log is full")]
     Full,
@@ -24,6 +24,12 @@ pub enum LogFault {
     NoLog,
     #[error("the log is of another table")]
     OtherTable,
+    #[error("the log is of a file of another size")]
+    OtherSize,
+    #[error("the log is of pages of another number or size")]
+    OtherPages,
+    #[error("the file has a log already")]
+    HasLog,
     #[error("the LSNs of the log do not go up by one")]
     UnevenLsn,
     #[error("two logs begin at the same LSN")]
@@ -80,6 +86,7 @@ impl<S: Store> LogFile<S> {
             × S.reads self.old.store 0 v.items true self.new.store) }
         ensures unread { OnErr result ((self.new.store ≡ self.old.store)
             ⊎ ((bytes : List ℕ) × S.reads self.old.store 0 bytes false self.new.store)) }
+        ensures fault { IfErr result (λ why. (why ≡ Memory) ⊎ (why ≡ FileFailed)) }
         ensures same { SamePlace self.old self.new }
     {
         let mut bytes = vec![in alloc; 0u8; self.size]?;
@@ -153,11 +160,29 @@ impl<S: Store> LogFile<S> {
         Ok(lsn)
     }
 
+    /// Writes records again that were read from the first byte on, and zeros behind them, and makes them durable: what was
+    /// read may be in the system's memory alone. `Memory`, and `Device` where the file fails.
+    pub fn settle(&mut self, alloc: Global, records: &[u8]) -> Result<(), LogFault>
+        ensures { (calls : List FileCall)
+            × FileDid S.reads S.writes S.syncs self.old.store calls self.new.store
+            × Settles (records.now ++ replicate (self.old.size - length records.now) 0) calls
+            (is_ok result) }
+    {
+        let mut bytes = Vec::new(alloc);
+        bytes.extend_from_slice(records)?;
+        let zeros = vec![in alloc; 0u8; self.size.saturating_sub(records.len())]?;
+        bytes.extend_from_slice(&zeros)?;
+        self.write(0, &bytes)?;
+        self.sync()?;
+        Ok(())
+    }
+
     /// Wipes the file, and begins a log with this first record at an LSN from 1 on, which is then durable. What was in the
     /// file counts until it is wiped. After an error the log has ended.
     pub fn begin(&mut self, alloc: Global, lsn: u64, head: &[u8]) -> Result<(), LogFault>
         requires { 1 ≤ lsn }
-        ensures { (first : List ℕ) (before : List FileCall) → failed before ≡ false →
+        ensures ended { OnErr result (self.new.is_ended ≡ true) }
+        ensures begins { (first : List ℕ) (before : List FileCall) → failed before ≡ false →
             length (written first before) ≡ length first → self.old.size ≡ length first →
             Begins S.reads S.writes S.syncs self.old self.new first lsn before head.now
             (is_ok result) }
@@ -169,7 +194,13 @@ impl<S: Store> LogFile<S> {
         self.end = 0;
         self.next = lsn;
         self.is_ended = false;
-        self.append(alloc, head)?;
+        match self.append(alloc, head) {
+            Ok(_) => {}
+            Err(fault) => {
+                self.is_ended = true;
+                return Err(fault);
+            }
+        }
         self.sync()?;
         Ok(())
     }

@@ -1,7 +1,8 @@
 //! An engine that recovers, to copy: a table of rows, whose pages are in a pool for one owner, and whose commits are in
-//! a log. It commits, is stopped as by a crash, and is opened again.
+//! a log. It commits, is stopped as by a crash, and is opened again. With arguments it is driven: see `driven.rt`.
 #![tactic(auto)]
 
+mod driven;
 mod frames;
 mod log;
 mod opening;
@@ -14,16 +15,17 @@ use bp_page::{Bytes, Geometry, Image, Lsn, PageNo, Refusal};
 use bp_ports::{MemDevice, MemPort, Port};
 use bp_trail::LogRecord;
 use log::LogFile;
-use opening::open;
+use opening::{create, open};
 use std::alloc::Global;
-use std::fs::{self, File};
+use std::env;
+use std::fs::{self, File, OpenFile};
 use std::rt::{Files, Runtime};
 use std::sync::Wait;
 use table::Table;
 
 const ROW: u32 = 16;
 
-/// The first record of the log: what its table is.
+/// The table's name, which the first record of the log tells.
 const NAME: &[u8] = b"rows of 16 bytes, in 4 pages of 64";
 
 /// The files that the log is in by turns, and their bytes.
@@ -53,14 +55,28 @@ fn show(rt: &impl Runtime, page: u64, image: &Image) -> Result<(), anyhow::Error
     Ok(())
 }
 
-/// Takes a file of the log, or makes it.
-fn log_file(
+/// Makes a file of the log, of this length. One that is there already is taken as it is.
+fn new_log(
     rt: &(impl Runtime + Files<File = File>),
     name: &str,
+    size: usize,
 ) -> Result<LogFile<File>, anyhow::Error> {
     let mut options = File::options();
     let file = options.read(true).write(true).create(true).open(rt, name)?;
-    Ok(LogFile::over(file, LOG_SIZE))
+    if file.metadata()?.len() == 0 {
+        file.set_len(size as u64)?;
+    }
+    Ok(LogFile::over(file, size))
+}
+
+/// Takes a file of the log, which has to be there: where one is lost, the other may be older than the pages.
+fn log_file(
+    rt: &(impl Runtime + Files<File = File>),
+    name: &str,
+    size: usize,
+) -> Result<LogFile<File>, anyhow::Error> {
+    let file = File::options().read(true).write(true).open(rt, name)?;
+    Ok(LogFile::over(file, size))
 }
 
 /// Makes a table over the pages as they are.
@@ -73,14 +89,16 @@ fn begin(
 }
 
 /// Makes both files of the log, and a table.
-fn create(
+fn make(
     rt: &(impl Runtime<A = Global> + Files<File = File>),
     port: MemPort,
 ) -> Result<Table<File, MemPort>, anyhow::Error> {
-    log_file(rt, LOGS[0])?.begin(rt.alloc(), 1, NAME)?;
-    let mut log = log_file(rt, LOGS[1])?;
-    log.begin(rt.alloc(), 2, NAME)?;
-    begin(rt, port, log)
+    let (mut one, mut two) = (
+        new_log(rt, LOGS[0], LOG_SIZE)?,
+        new_log(rt, LOGS[1], LOG_SIZE)?,
+    );
+    create(rt.alloc(), NAME, &port.geometry(), &mut one, &mut two)?;
+    begin(rt, port, one)
 }
 
 /// Commits these rows: the page of each, its number there, and its byte.
@@ -114,7 +132,10 @@ fn reopen(
     rt: &(impl Runtime<A = Global> + Files<File = File> + Wait),
     mut port: MemPort,
 ) -> Result<Table<File, MemPort>, anyhow::Error> {
-    let (mut one, mut two) = (log_file(rt, LOGS[0])?, log_file(rt, LOGS[1])?);
+    let (mut one, mut two) = (
+        log_file(rt, LOGS[0], LOG_SIZE)?,
+        log_file(rt, LOGS[1], LOG_SIZE)?,
+    );
     let is_second = open(rt, rt.alloc(), NAME, &mut port, &mut one, &mut two)?;
     println!(rt; "opened: the log goes on in file {}", u8::from(is_second))?;
     for page in 0..4 {
@@ -124,8 +145,12 @@ fn reopen(
 }
 
 fn main(rt: HostRuntime) -> Result<(), anyhow::Error> {
+    let words: Vec<String> = env::args(&rt)?.skip(1).collect(rt.alloc())?;
+    if let Some((what, more)) = words.split_first() {
+        return driven::drive(&rt, what, more);
+    }
     let device = MemDevice::new(rt.alloc(), Geometry::new(4, 64)?)?;
-    let mut table = create(&rt, device.port()?)?;
+    let mut table = make(&rt, device.port()?)?;
     let worked = work(&rt, &mut table);
     // What the pool has in its frames is gone, as after a crash.
     drop(table);

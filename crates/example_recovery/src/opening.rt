@@ -1,14 +1,17 @@
 //! Opens a table after a crash: its log is in the newer of two files, and is begun anew in the other one.
-ghost use Rattle.std.specs.Prelude.{◌≡◌, ◌+◌, ℕ, Bool, true, false, List, ◌++◌, length, reverse, is_ok, OnOk};
+ghost use Rattle.std.specs.Prelude.{◌≡◌, ◌+◌, ℕ, Bool, true, false, List, ◌++◌, length, reverse, is_ok, OnOk, IfErr};
+ghost use Rattle.bp_page.specs.declared.refusals.Refusal.TheVariants.{OutOfPage};
 ghost use Rattle.bp_trail.specs.declared.records.LogRecord.{LogRecord as Record};
-ghost use Rattle.example_recovery.specs.Disk.{DeviceCall, Honest, MayLeave};
-ghost use Rattle.example_recovery.specs.Files.{FileCall, FileLeaves, failed, synced, written};
+ghost use Rattle.example_recovery.specs.Disk.{DeviceCall, Honest, MayBring, MayLeave};
+ghost use Rattle.example_recovery.specs.Files.{FileCall, FileLeaves, SettledLeaves, synced, written};
+ghost use Rattle.example_recovery.specs.Heads.{head_of as head_is};
 ghost use Rattle.example_recovery.specs.Lives.{TellsTrue};
-ghost use Rattle.example_recovery.specs.Opening.{AreWithin, Beginning, BeginsBefore, IsNewer, MayBeOpened, MovesLog, OpensLog, RedoesLog};
+ghost use Rattle.example_recovery.specs.Opening.{AreWithin, Beginning, BeginsBefore, CreatesLog, IsNewer, MayBeOpened, MovesLog, OpensLog, again_of};
 ghost use Rattle.example_recovery.specs.Promise.{MayBeRedone, Recovers};
 
+use crate::frames::read_frame;
 use crate::log::{LogFault, LogFile};
-use crate::reading::{FoundLog, first_lsn, read_log};
+use crate::reading::{first_lsn, head_of, read_log};
 use crate::redo::redo_pages;
 use crate::table::TableFault;
 use bp_page::{Geometry, Lsn, Refusal};
@@ -19,7 +22,9 @@ use std::sync::Wait;
 
 /// `OutOfPage` where a change does not lie within a page of the file.
 fn check(device: &Geometry, changes: &[LogRecord]) -> Result<(), Refusal>
-    ensures { OnOk result (AreWithin device.now.pages device.now.size changes.now) }
+    ensures within { OnOk result (AreWithin device.now.pages device.now.size changes.now) }
+    ensures beyond { IfErr result (λ why. (why ≡ OutOfPage)
+        × ¬ AreWithin device.now.pages device.now.size changes.now) }
 {
     for change in changes {
         if change.page.number() >= device.pages {
@@ -32,61 +37,69 @@ fn check(device: &Geometry, changes: &[LogRecord]) -> Result<(), Refusal>
     Ok(())
 }
 
-/// Reads the newer of two logs, and puts all commits that are there into the pages, durably. It may be stopped at any
-/// moment, and begun again.
-///
-/// `Log` where a file has a log of another table, or the newer one none, or where it is not the newer one, and
-/// `OutOfPage` where a change lies in no page: nothing is then read of the pages or written. Else as `redo_pages`.
-pub fn recover<R: Wait, P: Port>(
-    rt: &R,
-    alloc: Global,
-    table: &[u8],
-    newer: &[u8],
-    older: &[u8],
-    port: &mut P,
-) -> Result<FoundLog, TableFault>
-    ensures { RedoesLog P.read_gives P.write_gives P.sync_gives (P.geometry_of port.old) table.now
-        newer.now older.now port.old result port.new }
-{
-    let found = read_log(alloc, newer, table)?;
-    if first_lsn(older, table)? >= found.first {
-        return Err(TableFault::Log(LogFault::TwoLogs));
-    }
-    check(&port.geometry(), &found.changes)?;
-    redo_pages(rt, alloc, port, &found.changes, Lsn::new(0))?;
-    Ok(found)
-}
-
-/// Recovers from the newer of two logs, and begins one in the file of the older one.
+/// Recovers from the newer of two logs with this head: writes it again, and so makes it durable, puts all its commits into the pages,
+/// durably, and begins a log in the file of the older one.
 fn move_log<R: Wait, S: Store, P: Port>(
     rt: &R,
     alloc: Global,
-    table: &[u8],
-    newer: &[u8],
-    older: &[u8],
+    head: &[u8],
+    bytes: &[u8],
+    other: &[u8],
     port: &mut P,
-    log: &mut LogFile<S>,
+    newer: &mut LogFile<S>,
+    older: &mut LogFile<S>,
 ) -> Result<(), TableFault>
-    ensures { (before : List FileCall) → failed before ≡ false →
-        written older.now before ≡ older.now → log.old.size ≡ length older.now →
-        MovesLog S.reads S.writes S.syncs P.read_gives P.write_gives P.sync_gives
-        (P.geometry_of port.old) table.now newer.now older.now before port.old log.old
-        (is_ok result) port.new log.new }
+    ensures { newer.old.size ≡ length bytes.now → MovesLog S.reads S.writes S.syncs P.read_gives
+        P.write_gives P.sync_gives (P.geometry_of port.old) head.now bytes.now other.now port.old
+        newer.old older.old result port.new newer.new older.new }
 {
-    let found = recover(rt, alloc, table, newer, older, port)?;
+    let found = read_log(alloc, bytes, head)?;
+    if first_lsn(other, head)? >= found.first {
+        return Err(TableFault::Log(LogFault::TwoLogs));
+    }
+    check(&port.geometry(), &found.changes)?;
     if found.last == u64::MAX {
         return Err(TableFault::Log(LogFault::Full));
     }
-    log.begin(alloc, found.last + 1, table)?;
+    newer.settle(alloc, found.records)?;
+    redo_pages(rt, alloc, port, &found.changes, Lsn::new(0))?;
+    older.begin(alloc, found.last + 1, head)?;
     Ok(())
 }
 
-/// Opens a table after a crash, whose log is in one of two files: puts its commits into the pages, durably, and begins
-/// the log anew in the other file. Returns true where that is the second one. It may be stopped at any moment, and
-/// begun again.
+/// Begins the log of a table in the first of two files, over the pages as they are. `HasLog` where a record stands at the
+/// front of either file, `Memory`, and `Device` where a file fails or is shorter than it is to be: nothing is then
+/// written. After any other refusal the first file may be wiped, and this may be called again.
+pub fn create<S: Store>(
+    alloc: Global,
+    table: &[u8],
+    device: &Geometry,
+    one: &mut LogFile<S>,
+    two: &mut LogFile<S>,
+) -> Result<(), LogFault>
+    ensures { CreatesLog S.reads S.writes S.syncs (head_is one.old.size device.now table.now)
+        one.old two.old result one.new two.new }
+{
+    let head = head_of(alloc, one.size, device, table)?;
+    let a = one.read_all(alloc)?;
+    let b = two.read_all(alloc)?;
+    if let Some(_) = read_frame(&a) {
+        return Err(LogFault::HasLog);
+    }
+    if let Some(_) = read_frame(&b) {
+        return Err(LogFault::HasLog);
+    }
+    one.begin(alloc, 1, &head)
+}
+
+/// Opens a table after a crash, whose log is in one of two files of one size: makes that log durable, puts its commits
+/// into the pages, durably, and begins the log anew in the other file. Returns true where that is the second one. It may
+/// be stopped at any moment, and begun again.
 ///
-/// Refused as `recover` is, with `Memory`, and with `Device` where a file fails or is shorter than it is to be. Before
-/// the pages are durable, nothing is written to the files.
+/// `Device` where a file fails or is shorter than it is to be, `OtherSize` where the log is of a file of another size,
+/// `OtherPages` where it is of pages of another number or size, `OtherTable`, `TwoLogs` where both begin at the same LSN,
+/// `OutOfPage` where a change lies in no page, `Memory`, and as `read_log` is refused: before the log was read, nothing
+/// is written.
 pub fn open<R: Wait, S: Store, P: Port>(
     rt: &R,
     alloc: Global,
@@ -96,49 +109,63 @@ pub fn open<R: Wait, S: Store, P: Port>(
     two: &mut LogFile<S>,
 ) -> Result<bool, TableFault>
     ensures { OpensLog S.reads S.writes S.syncs P.read_gives P.write_gives P.sync_gives
-        (P.geometry_of port.old) table.now port.old one.old two.old
-        result port.new one.new two.new }
+        (P.geometry_of port.old) (head_is one.old.size (P.geometry_of port.old) table.now) port.old
+        one.old two.old result port.new one.new two.new }
 {
+    if one.size != two.size {
+        return Err(TableFault::Log(LogFault::OtherSize));
+    }
+    let head = head_of(alloc, one.size, &port.geometry(), table)?;
     let a = one.read_all(alloc)?;
     let b = two.read_all(alloc)?;
-    if first_lsn(&a, table)? < first_lsn(&b, table)? {
-        move_log(rt, alloc, table, &b, &a, port, one)?;
+    if first_lsn(&a, &head)? < first_lsn(&b, &head)? {
+        move_log(rt, alloc, &head, &b, &a, port, two, one)?;
         return Ok(false);
     }
-    move_log(rt, alloc, table, &a, &b, port, two)?;
+    move_log(rt, alloc, &head, &a, &b, port, one, two)?;
     Ok(true)
 }
 
-/// Stop an opening at any moment. What is found in both files then makes of the pages what they were to be, as often as
-/// it is stopped: while pages are redone, and both files are as they were; and while the log is begun anew in the older
-/// one's file, when all pages are durable. When it is done each page is what it was to be, durably, and the log that was
-/// read begins before the one that goes on. It does nothing: its contract is the law.
+/// Stop an opening at any moment, by a loss of power or by the end of its process alone. What is found in both files then
+/// makes of the pages what they were to be, as often as it is stopped. Reads brought `seen` of the pages when it began,
+/// which a loss of power might have left too, and `first` is what it would have left. The newer log was written again
+/// before any page was.
+/// When the opening is done each page is what it was to be, durably, and the log that was read begins before the one
+/// that goes on. It does nothing: its contract is the law. What is left before that is law `a_crash_is_mended`.
 pub fn an_opening_may_be_stopped()
-    ensures redoing { (tears : Bool) (pages size : ℕ) (wanted first left : ℕ → List ℕ)
-        (table newer older : List ℕ) (begun last : ℕ) (changes : List Record) (done : Bool)
-        (calls later so_far : List DeviceCall) →
-        IsNewer table newer older begun last changes →
-        MayBeRedone tears size 0 (reverse changes) wanted first → Honest tears first calls →
+    ensures seen { (tears : Bool) (first : ℕ → List ℕ) (calls : List DeviceCall) (p : ℕ)
+        (image : List ℕ) → MayBring tears first calls p image → MayLeave tears first calls p image }
+    ensures redoing { (tears : Bool) (pages size : ℕ) (wanted seen first left : ℕ → List ℕ)
+        (table newer older left_newer left_older : List ℕ) (begun last : ℕ) (changes : List Record)
+        (done : Bool) (calls later so_far : List DeviceCall) →
+        (is : IsNewer table newer older begun last changes) →
+        SettledLeaves (again_of is) left_newer →
+        BeginsBefore begun left_older → MayBeRedone tears size 0 (reverse changes) wanted seen →
+        MayBeRedone tears size 0 (reverse changes) wanted first → Honest tears seen calls →
         Recovers pages size 0 (reverse changes) calls done → calls ≡ later ++ so_far →
         ((p : ℕ) → MayLeave tears first so_far p (left p)) →
-        MayBeOpened tears size table newer older wanted left }
-    ensures beginning { (tears : Bool) (pages size : ℕ) (wanted first left : ℕ → List ℕ)
-        (table newer older bytes : List ℕ) (begun last : ℕ) (changes : List Record)
-        (calls : List DeviceCall) (before log_calls : List FileCall) →
-        IsNewer table newer older begun last changes → AreWithin pages size changes →
-        MayBeRedone tears size 0 (reverse changes) wanted first → Honest tears first calls →
+        MayBeOpened tears size table left_newer left_older wanted left }
+    ensures beginning { (tears : Bool) (pages size : ℕ) (wanted seen first left : ℕ → List ℕ)
+        (table newer older left_newer file left_older : List ℕ) (begun last : ℕ)
+        (changes : List Record) (calls : List DeviceCall) (before log_calls : List FileCall) →
+        (is : IsNewer table newer older begun last changes) →
+        SettledLeaves (again_of is) left_newer →
+        AreWithin pages size changes → MayBeRedone tears size 0 (reverse changes) wanted seen →
+        MayBeRedone tears size 0 (reverse changes) wanted first → Honest tears seen calls →
         Recovers pages size 0 (reverse changes) calls true →
-        ((p : ℕ) → MayLeave tears first calls p (left p)) →
-        synced older before ≡ older → written older before ≡ older →
-        Beginning older (last + 1) table before log_calls → FileLeaves older log_calls bytes →
-        TellsTrue (last + 1) (synced older log_calls) (written older log_calls) bytes →
-        MayBeOpened tears size table newer bytes wanted left }
-    ensures done { (tears : Bool) (pages size : ℕ) (wanted first left : ℕ → List ℕ)
-        (table newer older : List ℕ) (begun last : ℕ) (changes : List Record)
+        ((p : ℕ) → MayLeave tears first calls p (left p)) → BeginsBefore begun file →
+        synced file before ≡ file → written file before ≡ file →
+        Beginning file (last + 1) table before log_calls → FileLeaves file log_calls left_older →
+        TellsTrue (last + 1) (synced file log_calls) (written file log_calls) left_older →
+        MayBeOpened tears size table left_newer left_older wanted left }
+    ensures done { (tears : Bool) (pages size : ℕ) (wanted seen first left : ℕ → List ℕ)
+        (table newer older left_newer : List ℕ) (begun last : ℕ) (changes : List Record)
         (calls : List DeviceCall) →
-        IsNewer table newer older begun last changes → AreWithin pages size changes →
-        MayBeRedone tears size 0 (reverse changes) wanted first → Honest tears first calls →
+        (is : IsNewer table newer older begun last changes) →
+        SettledLeaves (again_of is) left_newer →
+        AreWithin pages size changes → MayBeRedone tears size 0 (reverse changes) wanted seen →
+        MayBeRedone tears size 0 (reverse changes) wanted first → Honest tears seen calls →
         Recovers pages size 0 (reverse changes) calls true →
         ((p : ℕ) → MayLeave tears first calls p (left p)) →
-        ((p : ℕ) → left p ≡ wanted p) × BeginsBefore (last + 1) newer }
+        ((p : ℕ) → left p ≡ wanted p) × BeginsBefore (last + 1) left_newer }
 {}

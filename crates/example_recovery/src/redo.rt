@@ -1,18 +1,18 @@
 //! Redo after a crash: the records of a log are put into the pages of a device.
-ghost use Rattle.std.specs.Prelude.{◌≡◌, ℕ, Bool, [], ◌∷◌, ◌++◌, List, Option, MatchOption, Result, length, reverse, is_ok};
+ghost use Rattle.std.specs.Prelude.{◌≡◌, ◌⊎◌, ℕ, Bool, [], ◌∷◌, ◌++◌, List, Option, MatchOption, Result, length, reverse, is_ok, OnOk};
 ghost use Rattle.bp_trail.specs.declared.records.LogRecord.{LogRecord as Record};
 ghost use Rattle.bp_trail.specs.Parameters.{Parameters};
 ghost use Rattle.bp_trail.specs.Trail.{Trail};
 ghost use Rattle.bp_trail.specs.Images.{written_into};
 ghost use Rattle.bp_trail.specs.Recovery.{NeverFall, Stopped, put, records_from, redo, wanted, within};
-ghost use Rattle.example_recovery.specs.Commits.{Kept};
+ghost use Rattle.example_recovery.specs.Commits.{Kept, log_of};
 ghost use Rattle.example_recovery.specs.Disk.{DeviceCall, Did, Honest, MayLeave};
 ghost use Rattle.example_recovery.specs.Files.{FileCall, FileLeaves, synced as synced_bytes, written as written_bytes};
-ghost use Rattle.example_recovery.specs.Lives.{TellsTrue};
+ghost use Rattle.example_recovery.specs.Lives.{Reopened, TellsTrue};
 ghost use Rattle.example_recovery.specs.Opening.{BeginsBefore, FindsLog};
 ghost use Rattle.example_recovery.specs.PoolLives.{IsSound};
 ghost use Rattle.example_recovery.specs.Promise.{IsMended, MayBeRedone, PoolLeaves, Recovers};
-ghost use Rattle.example_recovery.specs.Steps.{Begins, Redoes};
+ghost use Rattle.example_recovery.specs.Steps.{Begins, Redoes, Stamped, last_lsn};
 ghost use Rattle.example_recovery.specs.Tables.{TableRan};
 
 use bp_page::{Image, Lsn, PageNo, Refusal};
@@ -69,7 +69,22 @@ fn begin<R: Wait, P: Port>(
     }
 }
 
-/// Redoes one page, and writes it if the log has records of it.
+/// Returns the greatest LSN of the records that redo of a page wants, or 0 where there is none.
+fn greatest_lsn(log: &[LogRecord], from: Lsn, page: PageNo) -> Lsn
+    ensures { result ≡ last_lsn (records_from from (reverse log.now) page) }
+{
+    let mut lsn = 0;
+    for change in log {
+        if is_wanted(change, from, page) {
+            if change.lsn.number() > lsn {
+                lsn = change.lsn.number();
+            }
+        }
+    }
+    Lsn::new(lsn)
+}
+
+/// Redoes one page, and writes it if the log has records of it, under the greatest LSN of these.
 fn redo_one<R: Wait, P: Port>(
     rt: &R,
     alloc: Global,
@@ -82,13 +97,15 @@ fn redo_one<R: Wait, P: Port>(
     ensures did { (calls : List DeviceCall)
         × Did P.read_gives P.write_gives P.sync_gives port.old calls port.new
         × Redoes (P.geometry_of port.old).size from (reverse log.now) page calls (is_ok result) }
+    ensures stamped { OnOk result ((records_from from (reverse log.now) page ≡ [])
+        ⊎ Stamped P.write_gives page (records_from from (reverse log.now) page) port.new) }
 {
     let Some(first) = first_of(log, from, page) else {
         return Ok(());
     };
     let mut image = begin(rt, alloc, port, first, page)?;
     redo_page(log, from, page, &mut image)?;
-    match port.write(rt, page, &image, first.lsn) {
+    match port.write(rt, page, &image, greatest_lsn(log, from, page)) {
         Ok(()) => Ok(()),
         Err(_) => Err(Refusal::WriteFailed),
     }
@@ -122,18 +139,21 @@ pub fn redo_pages<R: Wait, P: Port>(
     }
 }
 
-/// Stop a table at any moment of its device. What is found of its log, whatever the other file has from before, are then
+/// Stop a table at any moment of its device, by a loss of power or by the end of its process alone, and openings after it
+/// at any moment before they redo a page. What is found of its log, whatever the other file has from before, are then
 /// the first commits, each whole, and no fewer than were synced; and whatever the device has may be redone, to what these
 /// commits make of the first images. It does nothing: its contract is the law.
 pub fn a_crash_is_mended()
     ensures { (c : Parameters) (tears : Bool) (first left : ℕ → List ℕ)
         (table file bytes other : List ℕ) (start : ℕ) (alive : Bool) (past synced : Trail)
-        (calls later so_far : List DeviceCall) (log_calls : List FileCall)
-        (commits : List (List Record)) (durable found last : ℕ) (changes pending : List Record) →
+        (calls later so_far : List DeviceCall) (log_calls opening_calls : List FileCall)
+        (commits : List (List Record)) (kept : List (List ℕ)) (durable n found last : ℕ)
+        (changes pending : List Record) →
         TableRan c table file start alive past synced calls log_calls commits durable pending →
+        Reopened file start log_calls (log_of table commits) durable opening_calls kept n →
         Honest tears first calls → ((p : ℕ) → length (first p) ≡ c.size) → calls ≡ later ++ so_far →
-        FileLeaves file log_calls bytes →
-        TellsTrue start (synced_bytes file log_calls) (written_bytes file log_calls) bytes →
+        FileLeaves file opening_calls bytes → TellsTrue start (synced_bytes file opening_calls)
+        (written_bytes file opening_calls) bytes →
         BeginsBefore start other → ((p : ℕ) → MayLeave tears first so_far p (left p)) →
         FindsLog table bytes other found last changes →
         ((p : ℕ) → IsSound tears c.size 0 (reverse changes) so_far p) →

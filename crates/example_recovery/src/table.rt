@@ -1,5 +1,5 @@
 //! A table: a pool for one owner, and a log in a file.
-ghost use Rattle.std.specs.Prelude.{◌≡◌, ◌⊎◌, ◌+◌, ◌++◌, ◌∷◌, [], ℕ, false, List, length, map, OnOk, IfOk};
+ghost use Rattle.std.specs.Prelude.{◌≡◌, ◌⊎◌, ◌+◌, ◌++◌, ◌∷◌, [], ℕ, true, false, List, length, map, OnOk, OnErr, IfOk};
 ghost use Rattle.bp_trail.specs.declared.records.LogRecord.{LogRecord as Record};
 ghost use Rattle.bp_trail.specs.Trail.{Trail};
 ghost use Rattle.example_recovery.specs.Commits.{AreChanges, payload_of};
@@ -181,7 +181,9 @@ impl<S: Store, P: Port> Table<S, P> {
         alloc: Global,
         changes: &[LogRecord],
     ) -> Result<u64, TableFault>
-        ensures { (table file : List ℕ) (start records : ℕ) (synced : Trail)
+        ensures refused { OnErr result ((self.new.is_ended ≡ true)
+            ⊎ ((self.new.pool ≡ self.old.pool) × (self.new.log ≡ self.old.log))) }
+        ensures goes { (table file : List ℕ) (start records : ℕ) (synced : Trail)
             (calls : List DeviceCall) (log_calls : List FileCall) (commits : List (List Record)) →
             IsTable table file start synced calls log_calls commits records [] self.old.pool
             self.old.log →

@@ -218,6 +218,14 @@ impl Disk {
         self.state().files[file].has_lost
     }
 
+    pub(crate) fn save(&self, file: usize) -> Vec<u8> {
+        self.state().files[file].save()
+    }
+
+    pub(crate) fn restore(&self, file: usize, saved: &[u8]) -> Option<()> {
+        self.state().files[file].restore(saved)
+    }
+
     pub(crate) fn look<T>(&self, file: usize, look: impl FnOnce(&[u8]) -> T) -> T {
         look(&self.state().files[file].seen)
     }

@@ -2,7 +2,7 @@
 use crate::Disk;
 use crate::random::Random;
 use std::os::unix::fs::FileExt;
-use std::{io, mem};
+use std::{io, iter, mem};
 
 /// The bytes that a disk keeps whole, unless it is [told otherwise](Disk::keep_whole): a write is torn between
 /// two such sectors, and not within one.
@@ -102,6 +102,50 @@ impl Content {
         self.has_lost = true;
     }
 
+    /// What is kept, and then each change that waits: its place, its length and its bytes. A new length has the place
+    /// `u64::MAX`, and no bytes.
+    pub(crate) fn save(&self) -> Vec<u8> {
+        let kept = Change::Bytes(0, self.kept.clone());
+        let waiting = self.waiting.iter().map(|it| &it.1);
+        let mut saved = Vec::new();
+        for change in iter::once(&kept).chain(waiting) {
+            let (at, length, bytes) = match change {
+                Change::Bytes(at, bytes) => (*at as u64, bytes.len(), &bytes[..]),
+                Change::Length(length) => (u64::MAX, *length, &[][..]),
+            };
+            saved.extend(at.to_le_bytes());
+            saved.extend((length as u64).to_le_bytes());
+            saved.extend(bytes);
+        }
+        saved
+    }
+
+    /// Has the file be what was saved.
+    pub(crate) fn restore(&mut self, mut saved: &[u8]) -> Option<()> {
+        let mut changes = Vec::new();
+        while !saved.is_empty() {
+            let (at, rest) = saved.split_first_chunk()?;
+            let (length, rest) = rest.split_first_chunk()?;
+            let (at, length) = (
+                u64::from_le_bytes(*at),
+                u64::from_le_bytes(*length) as usize,
+            );
+            let count = if at == u64::MAX { 0 } else { length };
+            let (bytes, rest) = rest.split_at_checked(count)?;
+            changes.push(match at {
+                u64::MAX => Change::Length(length),
+                _ => Change::Bytes(at as usize, bytes.to_vec()),
+            });
+            saved = rest;
+        }
+        *self = Content::default();
+        let mut changes = changes.into_iter();
+        changes.next().into_iter().for_each(|it| self.change(it));
+        self.sync(self.changes);
+        changes.for_each(|it| self.change(it));
+        Some(())
+    }
+
     /// Of what was not synced some is kept: nothing, all, what came first, or any sectors in any order.
     pub(crate) fn lose_power(&mut self, sector: usize, random: &mut Random) {
         let waiting = mem::take(&mut self.waiting).into_iter();
@@ -146,6 +190,20 @@ impl DiskFile {
     pub fn set_len(&self, length: u64) -> io::Result<()> {
         self.disk
             .change(self.number, Change::Length(length as usize))
+    }
+
+    /// What the file has, with what waits for a sync, for another process that is to go on with it. It is no request.
+    pub fn save(&self) -> Vec<u8> {
+        self.disk.save(self.number)
+    }
+
+    /// Has the file be what was saved, whatever it was. It is no request.
+    ///
+    /// # Errors
+    /// Where these bytes are not those of [`DiskFile::save`]. The file is then as it was.
+    pub fn restore(&self, saved: &[u8]) -> io::Result<()> {
+        let restored = self.disk.restore(self.number, saved);
+        restored.ok_or_else(|| io::Error::other("these bytes were not saved"))
     }
 
     /// How many bytes there are. It is no request, and does not fail.

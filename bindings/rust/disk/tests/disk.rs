@@ -60,6 +60,32 @@ fn of_what_was_not_synced_each_set_of_sectors_may_stay() {
     assert_eq!(found.len(), 16, "{found:?}");
 }
 
+// The next process sees what the one before it wrote, and its power may take what no sync has kept.
+#[test]
+fn what_was_saved_waits_as_before() {
+    let (mut found, mut lengths) = (BTreeSet::new(), BTreeSet::new());
+    for seed in 0..1_000 {
+        let before = disk(seed).1;
+        before.write_all_at(&[1; SIZE], 0).unwrap();
+        let (next, file) = disk(seed);
+        file.restore(&before.save()).unwrap();
+        assert_eq!(bytes(&file), [1; SIZE]);
+        next.lose_power();
+        found.insert(sectors(&file));
+        file.set_len(SECTOR as u64).unwrap();
+        let last = Disk::new(seed);
+        last.file("one").restore(&file.save()).unwrap();
+        assert_eq!(last.file("one").len(), SECTOR as u64);
+        last.lose_power();
+        lengths.insert(last.file("one").len());
+        let saved = bytes(&file);
+        assert!(file.restore(&before.save()[1..]).is_err());
+        assert_eq!(bytes(&file), saved);
+    }
+    assert_eq!(found.len(), 16, "{found:?}");
+    assert_eq!(lengths, [SECTOR as u64, SIZE as u64].into());
+}
+
 // A disk of larger sectors keeps or loses both of two, also of a write at which the power fails.
 #[test]
 fn what_is_kept_whole_may_be_more() {

@@ -4,7 +4,7 @@ use Rattle.example_recovery.proofs.CommitsRead.{Finds}
 use Rattle.example_recovery.proofs.reading.read_log.Given as goal
 
 abbrev pub invariant-loop-next : goal.invariant-loop-next
-invariant-loop-next l = Finds l.fn.table l.bytes l.head.lsn l.last l.changes.items l.rest
+invariant-loop-next l = Finds l.fn.head l.bytes l.found.lsn l.last l.changes.items l.rest
 
 abbrev pub decreases-loop-next : goal.decreases-loop-next
 decreases-loop-next l = length l.rest

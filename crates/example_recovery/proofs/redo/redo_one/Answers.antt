@@ -25,7 +25,7 @@ returns-in-Ok-clause-did g c =
     let told = c.in-Some.ensures in
     let log = reverse c.args.log.now in
     page-written g.P.Port.read_gives g.P.Port.write_gives g.P.Port.sync_gives (g.P.Port.geometry_of c.args.port.now).size c.args.from log c.args.port.now c.begin.new.port c.write.new.self
-    c.args.page c.begin.result c.in_ok-image.image c.redo_page.new.image c.in-Some.first.now.lsn (Ok c.in-Ok.field-0) told.0 c.in-Some.first.now true (c.begin.ensures.began c.args.from log told.0 told.1)
+    c.args.page c.begin.result c.in_ok-image.image c.redo_page.new.image c.greatest_lsn.result (Ok c.in-Ok.field-0) told.0 c.in-Some.first.now true (c.begin.ensures.began c.args.from log told.0 told.1)
     c.in_ok-image.was told.1 c.in_ok-redo_page.ensures.fitted c.in_ok-redo_page.ensures.redone c.in-Ok.ensures.gives refl
 
 pub returns-clause-did : goal.returns-clause-did
@@ -33,5 +33,5 @@ returns-clause-did g c =
     let told = c.in-Some.ensures in
     let log = reverse c.args.log.now in
     page-written g.P.Port.read_gives g.P.Port.write_gives g.P.Port.sync_gives (g.P.Port.geometry_of c.args.port.now).size c.args.from log c.args.port.now c.begin.new.port c.write.new.self
-    c.args.page c.begin.result c.in_ok-image.image c.redo_page.new.image c.in-Some.first.now.lsn (Err c.in-Err.field-0) told.0 c.in-Some.first.now false (c.begin.ensures.began c.args.from log told.0 told.1)
+    c.args.page c.begin.result c.in_ok-image.image c.redo_page.new.image c.greatest_lsn.result (Err c.in-Err.field-0) told.0 c.in-Some.first.now false (c.begin.ensures.began c.args.from log told.0 told.1)
     c.in_ok-image.was told.1 c.in_ok-redo_page.ensures.fitted c.in_ok-redo_page.ensures.redone c.in-Err.ensures.gives refl

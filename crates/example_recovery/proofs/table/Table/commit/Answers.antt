@@ -15,16 +15,16 @@ either L a b l e (inr more) = inr (more ∙ ap (λ (t : List ℕ). L ++ t ∷ []
 count : (table : List ℕ) (commits : List (List LogRecord)) (start lsn : ℕ) → lsn ≡ start + length (log_of table commits) → lsn ≡ start + 1 + length commits
 count table commits start lsn e = omega (arith, e, length-map commits payload_of)
 
-pub returns-then-self : goal.returns-then-self
-returns-then-self g c = λ table file start records synced calls log_calls commits is.
+pub returns-then-self-clause-goes : goal.returns-then-self-clause-goes
+returns-then-self-clause-goes g c = λ table file start records synced calls log_calls commits is.
     table-stays g.S.Store.reads g.S.Store.writes g.S.Store.syncs g.P.Port.read_gives g.P.Port.write_gives g.P.Port.sync_gives table file start synced calls log_calls commits records [] c.args.self.now.pool c.args.self.now.log is _ (inl refl, (λ e. refl), tt)
 
-pub returns-in_err-payload : goal.returns-in_err-payload
-returns-in_err-payload g c = λ table file start records synced calls log_calls commits is.
+pub returns-in_err-payload-clause-goes : goal.returns-in_err-payload-clause-goes
+returns-in_err-payload-clause-goes g c = λ table file start records synced calls log_calls commits is.
     table-stays g.S.Store.reads g.S.Store.writes g.S.Store.syncs g.P.Port.read_gives g.P.Port.write_gives g.P.Port.sync_gives table file start synced calls log_calls commits records [] c.args.self.now.pool c.args.self.now.log is _ (inl refl, (λ e. refl), (err-if c.from_residual.result _ (Unit {0}) c.from_residual.ensures.0 tt).0)
 
-pub returns-in_err-lsn : goal.returns-in_err-lsn
-returns-in_err-lsn g c = λ table file start records synced calls log_calls commits is.
+pub returns-in_err-lsn-clause-goes : goal.returns-in_err-lsn-clause-goes
+returns-in_err-lsn-clause-goes g c = λ table file start records synced calls log_calls commits is.
     (let l = start + 1 + length commits in
     let told = c.in_ok-payload.ensures l in
     log-refuses g.S.Store.reads g.S.Store.writes g.S.Store.syncs g.P.Port.read_gives g.P.Port.write_gives g.P.Port.sync_gives table file start synced calls log_calls commits records [] c.args.self.now.pool c.args.self.now.log is c.append.new.self (map (under l) c.args.changes.now) (λ x n. Unit {0}) _ refl told.1
@@ -43,8 +43,8 @@ loop-change-init g c = λ table file start records synced calls log_calls commit
           (weaken g.S.Store.reads g.S.Store.writes g.S.Store.syncs c.args.self.now.log c.append.new.self file start log_calls _ _ (λ x n p. (p.0, p.1.1 ∙ ap (λ (t : List ℕ). log_of table commits ++ t ∷ []) (c.deref.ensures.value ∙ told.0))) life) (refl, refl),
     ))
 
-pub returns-in-Err : goal.returns-in-Err
-returns-in-Err g c = λ table file start records synced calls log_calls commits is.
+pub returns-in-Err-clause-goes : goal.returns-in-Err-clause-goes
+returns-in-Err-clause-goes g c = λ table file start records synced calls log_calls commits is.
     (let v = c.loop-change.invariant table file start records synced calls log_calls commits is in
     let t = v.1 in
     let u = under c.in_ok-lsn.lsn in
@@ -69,8 +69,8 @@ loop-change-preserved g c = λ table file start records synced calls log_calls c
           (table-weaken g.S.Store.reads g.S.Store.writes g.S.Store.syncs g.P.Port.read_gives g.P.Port.write_gives g.P.Port.sync_gives table file start _ _ _ _ (t.more ++ calls) (t.more_log ++ log_calls) _ _ (λ cs n left q. (q.0 ∙ t.is_so.0, q.2)) p),
     ))
 
-pub returns : goal.returns
-returns g c = λ table file start records synced calls log_calls commits is.
+pub returns-clause-goes : goal.returns-clause-goes
+returns-clause-goes g c = λ table file start records synced calls log_calls commits is.
     (let v = c.loop-change.invariant table file start records synced calls log_calls commits is in
     let none = ap (λ (t : List LogRecord). reverse (map (under c.in_ok-lsn.lsn) t)) (drop_all c.loop-change.change-index c.args.changes.now c.loop-change-test.false) in
     table-weaken g.S.Store.reads g.S.Store.writes g.S.Store.syncs g.P.Port.read_gives g.P.Port.write_gives g.P.Port.sync_gives table file start _ _ _ _ calls log_calls _ _

@@ -1,0 +1,265 @@
+//! The table over files of the system, as `check/kills` drives it: it is killed, and its power is cut.
+//!
+//!     example_recovery create PAGES SIZE LOG
+//!     example_recovery show PAGES SIZE LOG
+//!     example_recovery work PAGES SIZE LOG FRAMES LIVES COMMITS CHANGES EVERY SEED IMAGES
+//!
+//! The files are in the folder in which it runs: PAGES pages of SIZE bytes, and two logs of LOG bytes. `show` opens the
+//! table, and prints the number of the commit that each row is from. `work` does so LIVES times, and each time commits
+//! until COMMITS are made or the log is full, and then stops as a process that dies: what was not made durable may be
+//! lost. A commit has up to CHANGES changes, which come from SEED and its number. Each EVERY commits are made durable,
+//! and acknowledged by a line. Where IMAGES is 1, the first change of a page since it was opened is of the whole page.
+
+use crate::frames::split_number;
+use crate::log::{LogFault, LogFile};
+use crate::opening::{self, open};
+use crate::table::{Table, TableFault};
+use crate::{LOGS, ROW, log_file, new_log};
+use anyhow::Context;
+use bp_core::Settings;
+use bp_page::{Bytes, Format, Geometry, Lsn, PageNo};
+use bp_ports::{FilePort, Port, create_page_file};
+use bp_trail::LogRecord;
+use std::alloc::Global;
+use std::fs::File;
+use std::rt::{Files, Runtime};
+use std::sync::Wait;
+
+/// The first record of a log.
+const NAME: &[u8] = b"rows of 16 bytes";
+
+/// The page file.
+const PAGES: &str = "example_recovery.pages";
+
+/// What the words of the command line say.
+#[derive(Clone, Copy)]
+struct Words {
+    device: Geometry,
+    log: usize,
+    frames: usize,
+    lives: u64,
+    commits: u64,
+    changes: u64,
+    every: u64,
+    seed: u64,
+    is_imaged: bool,
+}
+
+/// The next number of a linear congruential generator.
+fn next(state: u64) -> u64 {
+    state
+        .wrapping_mul(6364136223846793005)
+        .wrapping_add(1442695040888963407)
+}
+
+/// Returns a number below a limit.
+fn below(state: u64, limit: u64) -> u64 {
+    (state >> 33) % limit.max(1)
+}
+
+/// Makes a change, each row of which is the number of its commit and the seed.
+fn change(
+    alloc: Global,
+    words: &Words,
+    page: u64,
+    row: Option<u64>,
+    number: u64,
+) -> Result<LogRecord, anyhow::Error> {
+    let mut bytes = Vec::new(alloc);
+    let rows = if row.is_some() {
+        1
+    } else {
+        words.device.size / ROW as usize
+    };
+    for _ in 0..rows {
+        bytes.extend_from_slice(&number.to_le_bytes())?;
+        bytes.extend_from_slice(&words.seed.to_le_bytes())?;
+    }
+    Ok(LogRecord {
+        page: PageNo::new(page),
+        offset: u32::try_from(row.unwrap_or(0))
+            .unwrap_or(0)
+            .wrapping_mul(ROW),
+        bytes: Bytes::of(alloc, &bytes)?,
+        lsn: Lsn::new(0),
+    })
+}
+
+/// Makes the changes of a commit, and notes the pages of which there was none before.
+fn changes(
+    alloc: Global,
+    words: &Words,
+    number: u64,
+    known: &mut Vec<u64>,
+) -> Result<Vec<LogRecord>, anyhow::Error> {
+    let mut state = next(words.seed.wrapping_add(next(number)));
+    let mut changes = Vec::new(alloc);
+    for _ in 0..below(state, words.changes).saturating_add(1) {
+        state = next(state);
+        let page = below(state, words.device.pages);
+        state = next(state);
+        let row = below(state, words.device.size as u64 / u64::from(ROW));
+        let is_whole = words.is_imaged && !known.contains(&page);
+        let row = if is_whole { None } else { Some(row) };
+        changes.push(change(alloc, words, page, row, number)?)?;
+        if is_whole {
+            known.push(page)?;
+        }
+    }
+    Ok(changes)
+}
+
+/// Opens the page file.
+fn port_of(
+    rt: &(impl Runtime<A = Global> + Files<File = File>),
+    words: &Words,
+) -> Result<FilePort, anyhow::Error> {
+    let file = File::options().read(true).write(true).open(rt, PAGES)?;
+    Ok(FilePort::over(rt.alloc(), file, words.device, Format::Plain)?)
+}
+
+/// Prints which commit each row is from. Returns the last of them.
+fn show(
+    rt: &(impl Runtime<A = Global> + Wait),
+    port: &mut FilePort,
+    pages: u64,
+) -> Result<u64, anyhow::Error> {
+    let mut last = 0;
+    for page in 0..pages {
+        print!(rt; "page {page}:")?;
+        for row in port.read(rt, PageNo::new(page))?.bytes().chunks(16) {
+            let number = split_number(row).map_or(0, |it| it.0);
+            print!(rt; " {number}")?;
+            last = last.max(number);
+        }
+        println!(rt;)?;
+    }
+    println!(rt; "opened {last}")?;
+    Ok(last)
+}
+
+/// Opens the table, and prints what it has. Returns its port, its log, and the number of its last commit.
+fn opened(
+    rt: &(impl Runtime<A = Global> + Files<File = File> + Wait),
+    words: &Words,
+) -> Result<(FilePort, LogFile<File>, u64), anyhow::Error> {
+    let mut port = port_of(rt, words)?;
+    let (mut one, mut two) = (
+        log_file(rt, LOGS[0], words.log)?,
+        log_file(rt, LOGS[1], words.log)?,
+    );
+    let is_second = open(rt, rt.alloc(), NAME, &mut port, &mut one, &mut two)?;
+    let last = show(rt, &mut port, words.device.pages)?;
+    Ok((port, if is_second { two } else { one }, last))
+}
+
+/// Commits until the log is full.
+fn commit_all(
+    rt: &(impl Runtime<A = Global> + Wait),
+    words: &Words,
+    table: &mut Table<File, FilePort>,
+    last: u64,
+) -> Result<(), anyhow::Error> {
+    let mut known = Vec::new(rt.alloc());
+    let mut number = last;
+    for _ in 0..words.commits {
+        number = number.wrapping_add(1);
+        let changes = changes(rt.alloc(), words, number, &mut known)?;
+        match table.commit(rt, rt.alloc(), &changes) {
+            Ok(_) => {}
+            Err(TableFault::Log(LogFault::Full)) => return Ok(()),
+            Err(fault) => return Err(fault.into()),
+        }
+        if number % words.every.max(1) == 0 {
+            table.make_durable()?;
+            println!(rt; "durable {number}")?;
+        }
+    }
+    Ok(())
+}
+
+/// Opens the table and commits, until the process dies, in a way: the table is dropped as it is.
+fn live(
+    rt: &(impl Runtime<A = Global> + Files<File = File> + Wait),
+    words: &Words,
+) -> Result<(), anyhow::Error> {
+    let (port, log, last) = opened(rt, words)?;
+    let settings = Settings::new(2, 0, 1000)?;
+    let mut table = Table::begin(rt.alloc(), port, settings, words.frames, log)?;
+    let done = commit_all(rt, words, &mut table, last);
+    drop(table);
+    done
+}
+
+/// Makes the page file, and both files of the log.
+fn create(
+    rt: &(impl Runtime<A = Global> + Files<File = File> + Wait),
+    words: &Words,
+) -> Result<(), anyhow::Error> {
+    drop(create_page_file(rt, rt.alloc(), PAGES, words.device, Format::Plain)?);
+    let (mut one, mut two) = (
+        new_log(rt, LOGS[0], words.log)?,
+        new_log(rt, LOGS[1], words.log)?,
+    );
+    opening::create(rt.alloc(), NAME, &words.device, &mut one, &mut two)?;
+    Ok(())
+}
+
+/// Reads the words of the command line, of which those that lack are 0.
+fn words_of(alloc: Global, given: &[String]) -> Result<Words, anyhow::Error> {
+    let mut numbers = Vec::new(alloc);
+    for word in given {
+        numbers.push(word.parse::<u64>()?)?;
+    }
+    for _ in numbers.len()..10 {
+        numbers.push(0)?;
+    }
+    match numbers.as_slice() {
+        [
+            pages,
+            size,
+            log,
+            frames,
+            lives,
+            commits,
+            changes,
+            every,
+            seed,
+            images,
+        ] => Ok(Words {
+            device: Geometry::new(*pages, *size as usize)?,
+            log: *log as usize,
+            frames: *frames as usize,
+            lives: *lives,
+            commits: *commits,
+            changes: *changes,
+            every: *every,
+            seed: *seed,
+            is_imaged: *images == 1,
+        }),
+        _ => None.context("too many words"),
+    }
+}
+
+/// Does what the words of the command line say.
+pub fn drive(
+    rt: &(impl Runtime<A = Global> + Files<File = File> + Wait),
+    what: &str,
+    more: &[String],
+) -> Result<(), anyhow::Error> {
+    let words = words_of(rt.alloc(), more)?;
+    match what {
+        "create" => create(rt, &words),
+        "show" => {
+            drop(opened(rt, &words)?);
+            Ok(())
+        }
+        "work" => {
+            for _ in 0..words.lives {
+                live(rt, &words)?;
+            }
+            Ok(())
+        }
+        _ => None.context("no such work"),
+    }
+}
