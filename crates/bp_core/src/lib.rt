@@ -38,7 +38,7 @@ pub mod stats;
 pub use bp_keeper::{GhostTrail as Before, Keeper, RecordingKeeper, SilentKeeper};
 pub use bp_replacer::Settings;
 pub use bp_replacer::settings::{MAX_PERIOD, MAX_STAMPS};
-pub use bp_trail::{Call, Discarded, Ended, Entry, Flushed, NotFlushed, Refused, Reply, Row, Step};
+pub use bp_trail::{Call, Discarded, Ended, Entry, Flushed, NotFlushed, Reply};
 pub use config::Config;
 pub use passes::{EndRefusal, Fix, Flush, Pass, PassNote, ReadTicket, WriteTicket};
 pub use pool::PoolCore;

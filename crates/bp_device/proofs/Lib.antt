@@ -1,15 +1,6 @@
 pub mod Causes
-pub mod ClientPasses
 pub mod Driving
-pub mod GivingBack
-pub mod HeldRising
-pub mod HeldSlots
 pub mod Owning
-pub mod PieceSteps
-pub mod Removing
-pub mod RowCauses
-pub mod RowsWork
 pub mod Saving
-pub mod ScriptSteps
 pub mod SecondTry
 pub mod Working

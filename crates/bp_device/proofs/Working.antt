@@ -1,5 +1,5 @@
 -- How the device's work grows, entry by entry.
-use Rattle.std.proofs.Common.{List, ◌≡◌, refl, sym, ◌∙◌, ap, subst, ℕ, true, false, [], ◌∷◌, ◌++◌, Some, None, Result, Ok, Err}
+use Rattle.std.proofs.Common.{List, ◌≡◌, refl, sym, ◌∙◌, ap, subst, ℕ, true, false, [], ◌∷◌, ◌++◌, append_assoc, Some, None, Result, Ok, Err}
 use Rattle.std.specs.Result.{is_ok}
 use Rattle.bp_page.specs.declared.refusals.Refusal.{Refusal}
 use Rattle.bp_page.specs.declared.refusals.Refusal.TheVariants as refusal
@@ -21,7 +21,7 @@ use Rattle.bp_trail.specs.Ends.{read_failure, ended_reply}
 use Rattle.bp_core.specs.CoreView.{CoreView, with_entry}
 use Rattle.bp_core.specs.Outcomes.{FixOutcome, FlushOutcome}
 use Rattle.bp_device.specs.Drivers.{LoadOutcome, SaveOutcome, NoRead}
-use Rattle.bp_core.specs.Added.{Ends}
+use Rattle.bp_core.specs.Added.{with_piece, Ends}
 use Rattle.bp_trail.specs.Trail.{Trail}
 use Rattle.bp_core.specs.Work.{Reads, Writes, Works, WorksThrough, DoesWork}
 
@@ -40,6 +40,18 @@ module _ {A : Type 0} (reads : Reads A) (writes : Writes A) where
 
   pub same-as : (old mid new : CoreView) (port now : A) → DoesWork reads writes old port mid now → new ≡ mid → DoesWork reads writes old port new now
   same-as old mid new port now d is = record { piece = d.piece; is = is ∙ d.is; through = d.through }
+
+  pub through-append : (past xs ys : Trail) (port now after : A) → WorksThrough reads writes past ys port now → WorksThrough reads writes (ys ++ past) xs now after → WorksThrough reads writes past (xs ++ ys) port after
+  through-append past [] ys port now after d e = subst (λ a. WorksThrough reads writes past ys port a) (sym e) d
+  through-append past (x ∷ xs) ys port now after d e =
+      (e.0, through-append past xs ys port now e.0 d e.1, subst (λ es. Works reads writes es x.call x.reply e.0 after) (sym (append_assoc xs ys past)) e.2)
+
+  pub work-join : (old mid new : CoreView) (port now after : A) → DoesWork reads writes old port mid now → DoesWork reads writes mid now new after → DoesWork reads writes old port new after
+  work-join old mid new port now after d e = record {
+    piece = e.piece ++ d.piece;
+    is = e.is ∙ ap (λ core. with_piece core e.piece) d.is ∙ ap (λ es. record old { past = es }) (sym (append_assoc e.piece d.piece old.past));
+    through = through-append old.past e.piece d.piece port now after d.through (subst (λ es. WorksThrough reads writes es e.piece now after) (ap (λ core. core.past) d.is) e.through);
+  }
 
   -- a fix, whatever it answers
   pub fixed-work : (old mid new : CoreView) (port now : A) (client page : ℕ) (result : Result Fixing Refusal) → DoesWork reads writes old port mid now → FixOutcome mid client page result new

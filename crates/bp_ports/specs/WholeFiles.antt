@@ -1,9 +1,9 @@
 -- Whole page files of both versions, by the images of their pages, and the writes of a blank one.
-use Rattle.std.specs.Prelude.{◌≡◌, ℕ, zero, suc, List, [], ◌∷◌, ◌++◌, length, replicate, All, Option, Result, Ok}
+use Rattle.std.specs.Prelude.{◌≡◌, ℕ, zero, suc, ◌*◌, Bool, true, List, [], ◌∷◌, ◌++◌, length, replicate, All, Option}
 use Rattle.std.specs.Io.KnownBytes.{Consumes, Appends}
 use Rattle.bp_page.specs.declared.limits.Geometry.{Geometry}
-use Rattle.bp_page.specs.declared.refusals.PortFault.{PortFault}
 use Rattle.bp_page.specs.Slots.{raw_slot, headed_slot}
+use Rattle.bp_ports.specs.Files.{Transfer, StoreSync, slot_length, slot_of}
 
 -- the slots of images one after the other, of pages numbered from this one on
 abbrev pub slots_from : (ℕ → List ℕ → List ℕ) → ℕ → List (List ℕ) → List ℕ
@@ -42,11 +42,18 @@ abbrev pub Migrates : Geometry → Option (List ℕ) → Option (List ℕ) → O
     → Option (List ℕ) → Type 0
 Migrates g unread left old new = Copies g.pages g.size unread left old new
 
--- so many pages from page 0 on were written by a port, one after the other, each of so many bytes 0
--- and with LSN 0
-abbrev pub WritesBlank : {P : Type 0}
-    → (P → ℕ → List ℕ → ℕ → Result (Unit {0}) PortFault → P → Type 0) → ℕ → ℕ → P → P → Type 0
-WritesBlank {P} gives zero size port after = after ≡ port
-WritesBlank {P} gives (suc pages) size port after =
-    (between : P) × WritesBlank gives pages size port between
-    × gives between pages (replicate size 0) 0 (Ok tt) after
+-- so many slots from page 0 on were written to a store, one after the other, each with so many
+-- bytes 0, and with its page's number and LSN 0 where slots have these
+abbrev pub WritesBlank : {S : Type 0} → Transfer S → Bool → ℕ → ℕ → S → S → Type 0
+WritesBlank writes headed size zero store after = after ≡ store
+WritesBlank {S} writes headed size (suc pages) store after =
+    (between : S) × WritesBlank writes headed size pages store between
+    × writes between (pages * slot_length headed size) (slot_of headed pages 0 (replicate size 0))
+    true after
+
+-- each page of a store was written so, then the store was synced, and it was asked for no other
+-- read, write or sync
+abbrev pub FillsStore : {S : Type 0} → Transfer S → StoreSync S → Bool → Geometry → S → S → Type 0
+FillsStore {S} writes syncs headed geometry store after =
+    (filled : S) × WritesBlank writes headed geometry.size geometry.pages store filled
+    × syncs filled true after

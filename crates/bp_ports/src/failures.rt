@@ -7,7 +7,7 @@ use std::marker::Model;
 
 /// The number of failures, up to 2^64 − 1, where it stays.
 #[derive(Drop)]
-pub(crate) struct Failures {
+pub struct Failures {
     count: u64,
 }
 
@@ -18,20 +18,22 @@ impl Model for Failures {
 }
 
 impl Failures {
-    pub(crate) fn none() -> Failures
+    /// Nothing has failed yet.
+    pub fn none() -> Failures
         ensures { result ≡ 0 }
     {
         Failures { count: 0 }
     }
 
-    pub(crate) fn count(&self) -> u64
+    /// The number of failures.
+    pub fn count(&self) -> u64
         ensures { result ≡ self.now }
     {
         self.count
     }
 
     /// Counts one more failure, and returns its fault, `Device`.
-    pub(crate) fn add(&mut self) -> PortFault
+    pub fn add(&mut self) -> PortFault
         ensures fault { result ≡ PortFault.Device }
         ensures counted { IsCounted self.old self.new }
     {
@@ -42,7 +44,7 @@ impl Failures {
     }
 
     /// Passes on the outcome of a call on another port, and counts a `Device` fault as one of this port.
-    pub(crate) fn count_failure<T>(&mut self, outcome: Result<T, PortFault>) -> Result<T, PortFault>
+    pub fn count_failure<T>(&mut self, outcome: Result<T, PortFault>) -> Result<T, PortFault>
         ensures same { result ≡ outcome }
         ensures counts { Counts result self.old self.new }
     {

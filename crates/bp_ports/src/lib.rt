@@ -1,11 +1,9 @@
-//! The interface `Port` by which a client reads and writes the pages of a device, and its ports: to a page file, to a
-//! device in memory, and two for tests. Also how page files are made, and migrated to version 2.
+//! The interface `Port` by which a client reads and writes the pages of a device, and its ports: to a page file and to a
+//! device in memory. Also how page files are made, and migrated to version 2.
 #![tactic(auto)]
 
 mod failures;
 pub mod files;
-pub mod fuse;
-pub mod gate;
 pub mod memory;
 pub mod migration;
 pub mod new_files;
@@ -14,9 +12,8 @@ pub mod port;
 pub mod progress;
 pub mod store;
 
+pub use failures::Failures;
 pub use files::{FilePort, OpenFault, geometry_of_file};
-pub use fuse::FusePort;
-pub use gate::GatePort;
 pub use memory::{MemDevice, MemPort};
 pub use migration::{MigrateFault, migrate_watched, migrate_with};
 pub use new_files::create_page_file;

@@ -32,7 +32,7 @@ pub trait Store: Drop {
 }
 
 // A read or write of a part goes on with the rest, and one that was interrupted is made once more. A page file keeps
-// its length, so a sync is one of its data.
+// its length, so a sync is one of its data; a new file's length goes out with its data, which cannot be read without.
 impl<F: FileExt + OpenFile + Drop> Store for F {
     ghost use Rattle.bp_ports.specs.Files.{any_transfer, any_sync};
 

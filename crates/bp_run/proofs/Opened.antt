@@ -4,8 +4,8 @@ use Rattle.std.proofs.lemmas.List.Elements.{All-get_or}
 use Rattle.std.specs.Prelude.{IfErr, IfOk, Vec}
 use Rattle.std.specs.declared.alloc.Global.{Global}
 use Rattle.bp_page.specs.declared.limits.Geometry.{Geometry}
-use Rattle.bp_trail.specs.declared.scripts.Row.{Row}
-use Rattle.bp_trail.specs.Fits.{RowFits}
+use Rattle.bp_scripts.specs.declared.rows.Row.{Row}
+use Rattle.bp_scripts.specs.Fits.{RowFits}
 use Rattle.bp_trail.specs.Parameters.{Parameters}
 use Rattle.bp_core.specs.Work.{Reads, Writes}
 use Rattle.bp_trace.specs.InRange.{IsInRange}

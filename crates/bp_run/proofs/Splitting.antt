@@ -5,9 +5,9 @@ use Rattle.std.proofs.lemmas.List.{append_assoc, append-nil, get_or-map, get_or-
 use Rattle.std.proofs.lemmas.List.Elements.{All-head, All-tail, All-nil, All-cons}
 use Rattle.std.proofs.lemmas.List.FromFn.{get_or-map-range_with_len, length-map-range_with_len}
 use Rattle.std.specs.declared.vec.Vec.{Vec}
-use Rattle.bp_trail.specs.declared.scripts.Row.{Row}
+use Rattle.bp_scripts.specs.declared.rows.Row.{Row}
 use Rattle.bp_trail.specs.Lists.{greatest}
-use Rattle.bp_workers.specs.Scripts.{list_of, lists}
+use Rattle.bp_replay.specs.Scripts.{list_of, lists}
 use Rattle.bp_run.specs.Scripts.{clients_of, rows_of, scripts_for}
 
 -- ---- the greatest client

@@ -14,12 +14,12 @@ use Rattle.bp_page.specs.declared.refusals.Refusal.TheVariants as refusal
 use Rattle.bp_page.specs.declared.refusals.PortFault.TheVariants.{Device, Memory, WrongPage}
 use Rattle.bp_ports.specs.declared.files.OpenFault.{OpenFault}
 use Rattle.bp_ports.specs.declared.files.OpenFault.TheVariants.{Refused, Port}
-use Rattle.bp_trail.specs.declared.scripts.Row.{Row}
+use Rattle.bp_scripts.specs.declared.rows.Row.{Row}
 use Rattle.bp_trail.specs.Parameters.{Parameters}
 use Rattle.bp_trace.specs.InRange.{IsInRange}
 use Rattle.bp_core.specs.Work.{Reads, Writes}
 use Rattle.bp_core.specs.Outcomes.{IsFit}
-use Rattle.bp_workers.specs.ScriptRuns.{RunAnswers}
+use Rattle.bp_replay.specs.ScriptRuns.{RunAnswers}
 use Rattle.bp_charts.specs.declared.table.Line.{Line}
 use Rattle.bp_charts.specs.Table.{table_text}
 use Rattle.bp_sweep.specs.Dense.{Pages}

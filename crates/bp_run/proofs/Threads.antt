@@ -4,20 +4,20 @@ use Rattle.std.proofs.lemmas.Bool.{eqb-true}
 use Rattle.std.proofs.lemmas.List.Elements.{All-filter, All-head, All-tail, All-nil, All-cons, filter_passes}
 use Rattle.std.proofs.lemmas.List.FromFn.{get_or-map-range_with_len, length-map-range_with_len}
 use Rattle.bp_page.specs.declared.limits.Geometry.{Geometry}
-use Rattle.bp_trail.specs.declared.scripts.Row.{Row}
-use Rattle.bp_trail.specs.declared.scripts.Step.{Step}
-use Rattle.bp_trail.specs.declared.scripts.Step.TheVariants as step
+use Rattle.bp_scripts.specs.declared.rows.Row.{Row}
+use Rattle.bp_scripts.specs.declared.rows.Step.{Step}
+use Rattle.bp_scripts.specs.declared.rows.Step.TheVariants as step
 use Rattle.bp_trail.specs.Lists.{greatest}
 use Rattle.bp_trail.specs.Parameters.{Parameters}
-use Rattle.bp_trail.specs.LogBound.{log_of}
+use Rattle.bp_scripts.specs.LogBound.{log_of}
 use Rattle.bp_trace.specs.InRange.{IsInRange, SpeaksForLog}
 use Rattle.bp_trail.specs.declared.entries.Entry.{Entry}
-use Rattle.bp_trail.specs.declared.scripts.Refused.{Refused}
+use Rattle.bp_scripts.specs.declared.rows.Refused.{Refused}
 use Rattle.bp_core.specs.declared.config.Config.{Config}
 use Rattle.bp_core.specs.Agreement.{parameters_with}
-use Rattle.bp_workers.specs.Scripts.{EachScriptFits, RowFitsClient, list_of}
+use Rattle.bp_replay.specs.Scripts.{EachScriptFits, RowFitsClient, list_of}
 use Rattle.bp_core.specs.Work.{Reads, Writes}
-use Rattle.bp_workers.specs.ScriptRuns.{IsRun}
+use Rattle.bp_replay.specs.ScriptRuns.{IsRun}
 use Rattle.bp_run.specs.Scripts.{clients_of, rows_of, scripts_for, scripts_of}
 
 no_log : (client : ℕ) (step : Step) → SpeaksForLog client step → 0 < client → log_of step ≡ None

@@ -4,21 +4,21 @@ use Rattle.std.specs.declared.alloc.Global.{Global}
 use Rattle.std.specs.Io.KnownBytes.{Appends}
 use Rattle.bp_page.specs.declared.limits.Geometry.{Geometry}
 use Rattle.bp_trail.specs.declared.entries.Entry.{Entry}
-use Rattle.bp_trail.specs.declared.scripts.Row.{Row}
-use Rattle.bp_trail.specs.declared.scripts.Refused.{Refused}
+use Rattle.bp_scripts.specs.declared.rows.Row.{Row}
+use Rattle.bp_scripts.specs.declared.rows.Refused.{Refused}
 use Rattle.bp_trail.specs.Parameters.{Parameters}
 use Rattle.bp_trail.specs.Legal.{Legal}
 use Rattle.bp_trail.specs.Pieces.Manner.{driver}
-use Rattle.bp_trail.specs.Script.{Follows}
+use Rattle.bp_scripts.specs.Script.{Follows}
 use Rattle.bp_core.specs.CoreView.{CoreView}
 use Rattle.bp_core.specs.Added.{with_piece}
 use Rattle.bp_core.specs.Work.{Reads, Writes, WorksThrough}
-use Rattle.bp_device.specs.Rows.{ScriptCaused}
+use Rattle.bp_replay.specs.Rows.{ScriptCaused}
 use Rattle.bp_trace.specs.Script.{IsScriptOfSome, script_of}
 use Rattle.bp_trace.specs.Report.{report_text, rows_text}
 use Rattle.bp_trace.specs.Totals.{totals_text}
 use Rattle.bp_trail.specs.Totals.{totals_of}
-use Rattle.bp_workers.specs.ScriptRuns.{IsRun}
+use Rattle.bp_replay.specs.ScriptRuns.{IsRun}
 use Rattle.clap.specs.Words.{Text}
 use Rattle.bp_cli.specs.declared.words.Order.{Order}
 use Rattle.bp_cli.specs.declared.words.Order.TheVariants as order

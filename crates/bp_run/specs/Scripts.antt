@@ -1,7 +1,7 @@
 -- The scripts of the clients of a trace.
 use Rattle.std.specs.Prelude.{ℕ, ◌+◌, ◌==◌, List, filter, map}
 use Rattle.std.specs.List.{range_with_len}
-use Rattle.bp_trail.specs.declared.scripts.Row.{Row}
+use Rattle.bp_scripts.specs.declared.rows.Row.{Row}
 use Rattle.bp_trail.specs.Lists.{greatest}
 
 -- one more than the greatest client number, so 1 where there are no rows

@@ -6,7 +6,7 @@ use Rattle.clap.specs.Words.{Text}
 use Rattle.bp_page.specs.declared.limits.Geometry.{Geometry}
 use Rattle.bp_page.specs.declared.refusals.Refusal.TheVariants.{BadLength, Disagree, OutOfMemory}
 use Rattle.bp_ports.specs.declared.files.OpenFault.{OpenFault}
-use Rattle.bp_trail.specs.declared.scripts.Row.{Row}
+use Rattle.bp_scripts.specs.declared.rows.Row.{Row}
 use Rattle.bp_trace.specs.Script.{Answers, script_of}
 use Rattle.bp_trace.specs.declared.faults.TraceFault.{TraceFault}
 use Rattle.bp_cli.specs.Words.{RunOptions, TraceAt, from_stdin, at_path}

@@ -1,8 +1,8 @@
 //! A run in free order: one thread for each client.
 ghost use Rattle.std.specs.Prelude.{◌≡◌, ◌≢◌, All, List, IfErr, IfOk, vec_len};
 ghost use Rattle.bp_core.specs.Outcomes.{IsFit};
-ghost use Rattle.bp_workers.specs.Scripts.{lists};
-ghost use Rattle.bp_workers.specs.ScriptRuns.{IsRun};
+ghost use Rattle.bp_replay.specs.Scripts.{lists};
+ghost use Rattle.bp_replay.specs.ScriptRuns.{IsRun};
 ghost use Rattle.bp_core.specs.Agreement.{parameters_with};
 ghost use Rattle.bp_trace.specs.InRange.{IsInRange};
 ghost use Rattle.bp_cli.specs.Decision.{IsRunnable};
@@ -15,10 +15,11 @@ ghost use Rattle.bp_cli.specs.Words.{options_of};
 use crate::run::{print_run, room_for};
 use crate::scripts::{client_count, split};
 use bp_cli::{Ending, Order, Reason, RunWords, Stop};
-use bp_core::{Row, Settings};
+use bp_core::Settings;
 use bp_page::Geometry;
 use bp_ports::Port;
-use bp_workers::{Config, Outcome, run_clients};
+use bp_replay::{Config, Outcome, run_clients};
+use bp_scripts::Row;
 use std::alloc::Global;
 use std::io::Write;
 use std::marker::{Send, Sync};

@@ -1,9 +1,9 @@
 //! `run_with`, the whole program: it runs the rows of a trace over a new core and a page file, and reports, or does
 //! another task of its words.
-ghost use Rattle.std.specs.Prelude.{◌≡◌, ◌≢◌, ◌⊎◌, ◌++◌, ◌<◌, ◌≤◌, All, IfErr, IfOk, OnOk, [], if◌then◌else◌, vec_len, Ok, Err};
+ghost use Rattle.std.specs.Prelude.{◌≡◌, ◌≢◌, ◌⊎◌, ◌++◌, ◌<◌, ◌≤◌, reverse, All, IfErr, IfOk, OnOk, [], if◌then◌else◌, vec_len, Ok, Err};
 ghost use Rattle.std.specs.Io.KnownBytes.{Appends};
 ghost use Rattle.clap.specs.Walk.{texts};
-ghost use Rattle.bp_trail.specs.Fits.{RowFits};
+ghost use Rattle.bp_scripts.specs.Fits.{RowFits};
 ghost use Rattle.bp_trace.specs.InRange.{IsInRange};
 ghost use Rattle.bp_trace.specs.Report.{rows_text};
 ghost use Rattle.bp_cli.specs.Decision.{AsksForAnswer, AsksForHelp, AsksForVersion, IsDecision, IsRunnable};
@@ -26,11 +26,12 @@ use crate::scripts::client_count;
 use crate::sweeping::sweep_as_asked;
 use bp_cli::{Ending, Order, Reason, RunWords, Stop, Task, TraceSource, decide};
 use bp_core::config::MAX_CLIENTS;
-use bp_core::{Core, Entry, Keeper, RecordingKeeper, Refused, Row, Settings};
-use bp_device::drive_all;
+use bp_core::{Entry, Keeper, PoolCore, RecordingKeeper, Settings};
 use bp_page::{Geometry, PortFault, Refusal};
 use bp_ports::{OpenFault, Port};
-use bp_trace::{read_script_into, report, report_rows, report_totals};
+use bp_replay::drive_all;
+use bp_scripts::{Refused, Row};
+use bp_trace::{ReportKeeper, read_script_into, report, report_rows, report_totals};
 use std::alloc::Global;
 use std::io;
 use std::io::{Read, Write};
@@ -73,6 +74,15 @@ fn print_report<W: Write>(totals: bool, entries: &[Entry], out: &mut W) -> io::R
     }
 }
 
+/// Writes the refused rows, which end what is printed.
+fn print_rows<W: Write>(refused: &[Refused], out: &mut W) -> io::Result<()>
+    ensures { OnOk result (Appends (W.contents out.old) (W.contents out.new)
+        (rows_text refused.now)) }
+{
+    report_rows(refused, out)?;
+    out.flush()
+}
+
 fn print_whole<W: Write>(
     totals: bool,
     entries: &[Entry],
@@ -83,8 +93,7 @@ fn print_whole<W: Write>(
         (report_of totals entries.now ++ rows_text refused.now)) }
 {
     print_report(totals, entries, out)?;
-    report_rows(refused, out)?;
-    out.flush()
+    print_rows(refused, out)
 }
 
 /// Writes the report of the entries, or only its totals, and then the refused rows.
@@ -105,13 +114,28 @@ pub(crate) fn print_run<W: Write>(
     }
 }
 
-/// Makes a core for these rows in the order of the trace.
+/// Writes the report of a core's entries, or only its totals, and then the refused rows.
+fn print_core<W: Write>(
+    totals: bool,
+    core: &PoolCore<ReportKeeper>,
+    refused: &[Refused],
+    out: &mut W,
+) -> io::Result<()>
+    requires new { core.now.before ≡ [] }
+    ensures { OnOk result (Appends (W.contents out.old) (W.contents out.new)
+        (report_of totals (reverse core.now.past) ++ rows_text refused.now)) }
+{
+    core.keeper().report(totals, out)?;
+    print_rows(refused, out)
+}
+
+/// Makes a core for these rows in the order of the trace. Its keeper has no more than the report needs.
 fn new_core(
     alloc: Global,
     run: &RunWords<'_>,
     geometry: Geometry,
     rows: &[Row],
-) -> Result<Core, Stop>
+) -> Result<PoolCore<ReportKeeper>, Stop>
     requires runnable { IsRunnable (options_of run.now) }
     ensures made { IfOk result (λ core. (core.parameters ≡ parameters_for Order.Trace
         (options_of run.now) geometry rows.now) × (core.before ≡ []) × (core.past ≡ [])) }
@@ -119,7 +143,7 @@ fn new_core(
         stop.ending ≡ Ending.RunRefused Refusal.OutOfMemory) }
 {
     let settings = Settings::new(run.k, run.correlated, run.retained).unwrap();
-    match Core::new(
+    match PoolCore::new(
         alloc,
         geometry,
         settings,
@@ -137,7 +161,7 @@ fn new_core(
 fn drive_rows<P: Port, R: Wait, W: Write>(
     rt: &R,
     alloc: Global,
-    core: &mut Core,
+    core: &mut PoolCore<ReportKeeper>,
     port: &mut P,
     totals: bool,
     rows: &[Row],
@@ -156,8 +180,11 @@ fn drive_rows<P: Port, R: Wait, W: Write>(
         Ok(refused) => refused,
         Err(refusal) => return Err(Stop::from(Ending::RunRefused(refusal))),
     };
-    print_run(alloc, totals, core.trail(), &refused, out)?;
-    Ok(refused.is_empty())
+    core.keeps_the_rules();
+    match print_core(totals, core, &refused, out) {
+        Ok(()) => Ok(refused.is_empty()),
+        Err(error) => Err(output_failed(alloc, error)),
+    }
 }
 
 /// Runs the rows in the order of the trace over a new core and the port, and writes the report and the refused rows.

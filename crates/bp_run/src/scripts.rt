@@ -1,10 +1,10 @@
 //! `split`, which splits the rows of a trace into a script for each client.
 ghost use Rattle.std.specs.Prelude.{◌≡◌, ◌≢◌, ◌<◌, ◌++◌, ◌∷◌, ℕ, All, IfOk, OnOk, OnErr, [], length, vec_len};
-ghost use Rattle.bp_workers.specs.Scripts.{list_of, lists};
+ghost use Rattle.bp_replay.specs.Scripts.{list_of, lists};
 ghost use Rattle.bp_run.specs.Scripts.{clients_of, scripts_for};
 
-use bp_core::Row;
 use bp_page::Refusal;
+use bp_scripts::Row;
 use std::alloc::Global;
 
 /// Returns the number of clients of a run: one more than the greatest client number.

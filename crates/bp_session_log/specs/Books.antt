@@ -9,11 +9,11 @@ use Rattle.bp_trail.specs.declared.entries.Reply.{Reply}
 use Rattle.bp_trail.specs.declared.entries.Reply.TheVariants.{Done, Hit, Load, WriteFirst, Fixed}
 use Rattle.bp_trail.specs.declared.entries.Entry.{Entry}
 use Rattle.bp_trail.specs.Event.{Grant, grant}
+use Rattle.bp_trail.specs.HeldPasses.{held_passes}
 use Rattle.bp_trail.specs.Passes.{passes_out}
 use Rattle.bp_trail.specs.Legal.{is_out}
 use Rattle.bp_trail.specs.Trail.{Trail}
 use Rattle.bp_trail.specs.Pieces.{by}
-use Rattle.bp_trail.specs.Script.{held_passes}
 use Rattle.bp_core.specs.CoreView.{CoreView, with_entry}
 
 -- a client's own list, newest first, and what cuts handed out of it, the bytes of a page, and the

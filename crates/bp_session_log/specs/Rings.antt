@@ -8,7 +8,7 @@ use Rattle.bp_trail.specs.Event.{Grant}
 use Rattle.bp_trail.specs.Trail.{Trail}
 use Rattle.bp_trail.specs.Passes.{passes_out}
 use Rattle.bp_trail.specs.Legal.{is_out}
-use Rattle.bp_trail.specs.Script.{unfix_of}
+use Rattle.bp_trail.specs.HeldPasses.{unfix_of}
 
 -- the name by which a ring is told from every other
 pub record RingName : Type 0 where

@@ -5,9 +5,9 @@ ghost use Rattle.std.specs.Prelude.{OnOk, OnErr, vec_len, vec_capacity};
 ghost use Rattle.bp_trail.specs.declared.entries.Call.TheVariants as Call;
 ghost use Rattle.bp_trail.specs.declared.entries.Reply.TheVariants as Reply;
 ghost use Rattle.bp_trail.specs.Event.{grant, same_grant};
+ghost use Rattle.bp_trail.specs.HeldPasses.{held_passes};
 ghost use Rattle.bp_trail.specs.Passes.{passes_out};
 ghost use Rattle.bp_trail.specs.Legal.{is_out};
-ghost use Rattle.bp_trail.specs.Script.{held_passes};
 ghost use Rattle.bp_session_log.specs.Books.{BookValue, SameBook, Tells, plain_call, plain_reply, OwesRead, OwesWrite, owed};
 
 mod asking;
@@ -69,6 +69,44 @@ impl<K: ListKeeper> Model for Book<K> {
         × All (λ blank. K.fits blank b.geometry.size) b.blanks.items };
 }
 
+/// The room that a list is to have before an event, beside all that it owes.
+#[derive(Clone, Copy)]
+pub struct Room {
+    /// The entries that the event may add, and those that they owe.
+    pub entries: u32,
+    /// The passes that may be held besides.
+    pub passes: u32,
+    /// The copies of images that these entries may want.
+    pub copies: u32,
+}
+
+impl Room {
+    /// For one entry with no image: a tick, a purge, a discard or a write.
+    pub const ENTRY: Room = Room {
+        entries: 1,
+        passes: 0,
+        copies: 0,
+    };
+    /// For one entry with an image: a read.
+    pub const IMAGE: Room = Room {
+        entries: 1,
+        passes: 0,
+        copies: 1,
+    };
+
+    /// For a fix or a flush, where there is to be room for so many passes: a mark and the event, and an end and an
+    /// unfix that are owed then. Of these the event and the end may each have an image.
+    pub fn with_passes(passes: u32) -> Room
+        ensures { result ≡ record { entries = 4; passes = passes; copies = 2 } }
+    {
+        Room {
+            entries: 4,
+            passes,
+            copies: 2,
+        }
+    }
+}
+
 /// Makes so many blanks more.
 fn make_blanks<K: ListKeeper>(
     alloc: Global,
@@ -105,6 +143,14 @@ fn copied<K: ListKeeper>(blanks: &mut Vec<K::Blank>, image: &Image) -> K::SpareI
         unreachable!()
     };
     K::fill(blank, image)
+}
+
+/// A number of 32 bits as a size.
+fn size(n: u32) -> usize
+    ensures same { result ≡ n }
+    ensures few { n < 2 ^ 32 }
+{
+    n as usize
 }
 
 /// The number of entries for which a list has to have room before so many more, where it holds so many passes and
@@ -174,36 +220,36 @@ impl<K: ListKeeper> Book<K> {
         Some(PassNote::of(oldest.client, oldest.page, oldest.serial))
     }
 
-    /// Takes the memory for so many entries, passes and copies of images more, beside all that is owed. No entry is
-    /// added. Where memory is refused, which is `OutOfMemory`, the list is as before, and some of the room may be
-    /// there. A list that takes no memory for its entries, and has fewer than 2^61, is refused none for passes and
-    /// copies that it has room for.
-    pub fn reserve(&mut self, more: u32, passes: u32, copies: u32) -> Result<(), Refusal>
+    /// Takes the memory for so much room, beside all that is owed. No entry is added. Where memory is refused, which is
+    /// `OutOfMemory`, the list is as before, and some of the room may be there. A list that takes no memory for its
+    /// entries, and has fewer than 2^61, is refused none for passes and copies that it has room for.
+    pub fn reserve(&mut self, room: Room) -> Result<(), Refusal>
         ensures same { SameBook self.old self.new }
         ensures keeps_passes { self.old.passes ≤ self.new.passes }
         ensures keeps_places { self.old.places ≤ self.new.places }
-        ensures entries { OnOk result (more ≤ self.new.entries) }
-        ensures passes { OnOk result (passes ≤ self.new.passes) }
-        ensures copies { OnOk result (copies ≤ self.new.copies) }
-        ensures places { OnOk result (copies ≤ self.new.places) }
+        ensures entries { OnOk result (room.entries ≤ self.new.entries) }
+        ensures passes { OnOk result (room.passes ≤ self.new.passes) }
+        ensures copies { OnOk result (room.copies ≤ self.new.copies) }
+        ensures places { OnOk result (room.copies ≤ self.new.places) }
         ensures refused { OnErr result (result ≡ Err Refusal.OutOfMemory) }
         ensures memory { K.REFUSES ≡ false → length self.old.said < 2 ^ 61
-            → passes ≤ self.old.passes → copies ≤ self.old.places → IsOk result }
+            → room.passes ≤ self.old.passes → room.copies ≤ self.old.places → IsOk result }
     {
-        let Some(entries) = entries_wanted(self.held.len(), self.tickets, more as usize) else {
+        let (more, passes, copies) = (size(room.entries), size(room.passes), size(room.copies));
+        let Some(entries) = entries_wanted(self.held.len(), self.tickets, more) else {
             return Err(Refusal::OutOfMemory);
         };
-        let Some(room) = self.tickets.checked_add(passes as usize) else {
+        let Some(held) = self.tickets.checked_add(passes) else {
             return Err(Refusal::OutOfMemory);
         };
         self.said.reserve(entries)?;
-        self.held.reserve(room)?;
+        self.held.reserve(held)?;
         let spare = self.blanks.len() - self.tickets;
         make_blanks::<K>(
             self.alloc,
             &self.geometry,
             &mut self.blanks,
-            (copies as usize).saturating_sub(spare),
+            copies.saturating_sub(spare),
         )?;
         Ok(())
     }

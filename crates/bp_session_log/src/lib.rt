@@ -21,7 +21,7 @@ pub mod pending;
 mod posted;
 
 pub use boards::{Board, Line, Shows};
-pub use book::Book;
+pub use book::{Book, Room};
 pub use draining::drain_all;
 pub use pending::{Fix, Flush, PendingRead, PendingWrite};
 pub use posted::Posted;

@@ -12,7 +12,7 @@ use Rattle.rtrb.specs.Ring.{received}
 use Rattle.bp_trail.specs.Event.{Grant}
 use Rattle.bp_trail.specs.declared.entries.Entry.{Entry}
 use Rattle.bp_trail.specs.Trail.{Trail}
-use Rattle.bp_trail.specs.Script.{unfix_of}
+use Rattle.bp_trail.specs.HeldPasses.{unfix_of}
 use Rattle.bp_trail.specs.Clients.{of_client}
 use Rattle.bp_trail.proofs.Comparing.{of_client-append, of_client-hit, of_client-miss}
 use Rattle.bp_core.specs.CoreView.{CoreView}

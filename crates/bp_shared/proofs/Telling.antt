@@ -13,8 +13,8 @@ use Rattle.bp_trail.specs.declared.entries.Reply.TheVariants.{Done, Hit, Load, W
 use Rattle.bp_trail.specs.declared.entries.Entry.{Entry}
 use Rattle.bp_trail.specs.Event.{Grant}
 use Rattle.bp_trail.specs.Trail.{Trail}
+use Rattle.bp_trail.specs.HeldPasses.{unfix_of}
 use Rattle.bp_trail.specs.Pieces.{by}
-use Rattle.bp_trail.specs.Script.{unfix_of}
 use Rattle.bp_core.specs.declared.passes.Pass.{Pass}
 use Rattle.bp_core.specs.declared.passes.ReadTicket.{ReadTicket}
 use Rattle.bp_core.specs.declared.passes.WriteTicket.{WriteTicket}
@@ -438,9 +438,24 @@ earlier_drained board b past mid e d = earlier_more board b past mid (map unfix_
 pub earlier_cut : (board : ℕ) (b : Board) (old new : CoreView) (entries : List Entry) → AreEarlier board b old.past → Cuts old entries new → AreEarlier board b new.past
 earlier_cut board b old new entries e cut = subst (λ p. AreEarlier board b p) (sym (ap (λ (core : CoreView). core.past) cut.is)) e
 
--- nothing was seen yet
-pub earlier_none : (board : ℕ) (b : Board) (past : Trail) → b.name ≡ board → IsBlank b.lists → AreEarlier board b past
-earlier_none board b past name blank = record { board_is = name; each = λ n. (past, sym (append-nil past) ∙ ap (λ l. past ++ l) (sym (blank n))) }
+-- each line that was opened was shown the trail of a pool that is made
+set_last : (lists : List Trail) (last list : Trail) → set (lists ++ last ∷ []) (length lists) list ≡ lists ++ list ∷ []
+set_last [] last list = refl
+set_last (l ∷ lists) last list = ap (λ ls. l ∷ ls) (set_last lists last list)
+
+pub all_shown : (past list : Trail) (old mid new : Board) (line has : Line) → All (λ l. l ≡ past) old.lists → Opens old mid line → Writes mid line list new has → list ≡ past → All (λ l. l ≡ past) new.lists
+all_shown past list old mid new line has all o w is =
+    let lists : new.lists ≡ old.lists ++ list ∷ [] =
+    w.lists ∙ ap (λ ls. set ls line.number list) o.lists ∙ ap (λ n. set (old.lists ++ [] ∷ []) n list) o.number_is ∙ set_last old.lists [] list in
+    subst (All (λ l. l ≡ past)) (sym lists) (All-append (λ l. l ≡ past) old.lists (list ∷ []) all (All-cons (λ l. l ≡ past) list [] is (All-nil (λ l. l ≡ past))))
+
+pub earlier_shown : (board : ℕ) (b : Board) (past : Trail) → b.name ≡ board → All (λ l. l ≡ past) b.lists → AreEarlier board b past
+earlier_shown board b past name all = record { board_is = name; each = each b.lists all }
+  where
+    each : (lists : List Trail) → All (λ l. l ≡ past) lists → (n : ℕ) → GoesOnFrom (get_or lists n []) past
+    each [] all n = (past, sym (append-nil past))
+    each (l ∷ lists) all zero = ([], sym (All-head (λ l. l ≡ past) l lists all))
+    each (l ∷ lists) all (suc n) = each lists (All-tail (λ l. l ≡ past) l lists all) n
 
 -- a line was opened, for which nothing was seen
 pub earlier_opened : (board : ℕ) (old new : Board) (line : Line) (past : Trail) → AreEarlier board old past → Opens old new line → AreEarlier board new past

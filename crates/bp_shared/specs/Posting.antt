@@ -7,7 +7,7 @@ use Rattle.bp_trail.specs.Event.{Grant}
 use Rattle.bp_trail.specs.Lists.{some}
 use Rattle.bp_trail.specs.Trail.{Trail}
 use Rattle.bp_trail.specs.Passes.{pass_of}
-use Rattle.bp_trail.specs.Script.{unfix_of}
+use Rattle.bp_trail.specs.HeldPasses.{unfix_of}
 use Rattle.bp_trail.specs.Clients.{of_client}
 use Rattle.bp_core.specs.CoreView.{CoreView}
 use Rattle.bp_session_log.specs.Books.{unfixes}

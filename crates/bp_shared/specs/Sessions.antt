@@ -48,14 +48,15 @@ IsRoomy s = IsRoomyFor 1 s
 abbrev pub IsLong : SessionValue → Type 0
 IsLong s = 2 ^ 61 ≤ length s.said
 
--- a session that said nothing, with 32 free places in its ring
-abbrev pub new_session : ℕ → SessionValue
-new_session client =
+-- a session that said nothing, and saw of its pool the trail that it was made with, with 32 free
+-- places in its ring
+abbrev pub new_session : Trail → ℕ → SessionValue
+new_session start client =
     record {
       client = client;
       before = [];
       said = [];
-      seen = [];
+      seen = start;
       free = 32;
       room = 0;
       passes = 0;
@@ -64,9 +65,9 @@ new_session client =
     }
 
 -- a new session for each client, in order
-abbrev pub new_sessions : ℕ → List SessionValue
-new_sessions zero = []
-new_sessions (suc n) = new_sessions n ++ new_session n ∷ []
+abbrev pub new_sessions : Trail → ℕ → List SessionValue
+new_sessions start zero = []
+new_sessions start (suc n) = new_sessions start n ++ new_session start n ∷ []
 
 -- what the list had was handed out, and all else goes on
 abbrev pub IsCut : SessionValue → SessionValue → Type 0

@@ -7,7 +7,7 @@ use Rattle.bp_trail.specs.Parameters.{Parameters}
 use Rattle.bp_trail.specs.Trail.{Trail}
 use Rattle.bp_trail.specs.Clients.{of_client}
 use Rattle.bp_trail.specs.Event.{Grant}
-use Rattle.bp_trail.specs.Script.{unfix_of}
+use Rattle.bp_trail.specs.HeldPasses.{unfix_of}
 use Rattle.bp_session_log.specs.declared.boards.Board.{Board}
 use Rattle.bp_session_log.specs.declared.boards.Line.{Line}
 use Rattle.bp_shared.specs.Sessions.{SessionValue}

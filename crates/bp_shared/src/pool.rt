@@ -12,13 +12,13 @@ use crate::closed_pool::ClosedPool;
 use crate::locked_pool::LockedPool;
 use crate::locking::locked;
 use crate::names::PoolName;
-use crate::session::Session;
+use crate::session::{Past, Session};
 use crate::taker::Taker;
 use crate::trail_ring::TrailRing;
 use bp_core::{Entry, Pass, PassNote, PoolCore};
 use bp_keeper::{ListKeeper, RecordingKeeper};
 use bp_mark::{Mark, Reader};
-use bp_page::{Geometry, Refusal};
+use bp_page::Refusal;
 use bp_session_log::draining::ALL;
 use bp_session_log::{Board, Posted};
 use rtrb::{Consumer, Producer};
@@ -35,38 +35,41 @@ mod pieces;
 mod single;
 mod source;
 
-/// Makes a session for each client, with the next line of both boards and the posting end of its ring, in order.
+/// Makes a session for each client, with the next line of both boards and the posting end of its ring, in order. Each
+/// sees the trail of the core.
 fn new_clients<N: PoolName, K: ListKeeper>(
     alloc: Global,
-    geometry: Geometry,
-    clients: u8,
+    core: &PoolCore<K>,
     producers: Vec<Producer<PassNote>>,
     board: &mut Board,
     seen: &mut Board,
 ) -> Result<Vec<Session<N, K>>, Refusal>
-    requires clients { clients ≡ N.parameters.clients }
-    requires size { geometry.size ≡ N.parameters.size }
+    requires parameters { core.now.parameters ≡ N.parameters }
+    requires past { core.now.past ≡ N.past }
     requires rings { map ring_of producers.items ≡ N.ring.rings }
     requires unused { All IsUnused producers.items }
-    requires count { length producers.items ≡ clients }
+    requires count { length producers.items ≡ N.parameters.clients }
     requires board { board.old.name ≡ N.ring.board }
     requires seen { seen.old.name ≡ N.ring.seen }
     requires empty { (board.old.lists ≡ []) × (seen.old.lists ≡ []) }
     ensures board { board.new.name ≡ N.ring.board }
-    ensures seen { seen.new.name ≡ N.ring.seen }
     ensures blank { OnOk result (IsBlank board.new.lists) }
-    ensures unseen { OnOk result (IsBlank seen.new.lists) }
-    ensures sessions { IfOk result (λ made. made.items ≡ new_sessions N.parameters.clients) }
+    ensures seen { seen.new.name ≡ N.ring.seen }
+    ensures shown { OnOk result (All (λ list. list ≡ N.past) seen.new.lists) }
+    ensures sessions { IfOk result (λ made.
+        made.items ≡ new_sessions N.past N.parameters.clients) }
     ensures refused { OnErr result (result ≡ Err Refusal.OutOfMemory) }
 {
+    let clients = core.clients();
     let mut sessions = Vec::with_capacity(alloc, clients as usize)?;
     let mut producers = producers.into_iter();
     for client in 0..clients {
         let Some(producer) = producers.next() else {
             unreachable!()
         };
-        let (line, seen) = (board.line(), seen.line());
-        let session = Session::new(alloc, geometry, client, producer, line, seen);
+        let (line, mut saw) = (board.line(), seen.line());
+        seen.write::<PoolCore<K>, Past>(&mut saw, core);
+        let session = Session::new(alloc, core.geometry(), client, producer, line, saw);
         sessions.push_reserved(session);
     }
     Ok(sessions)
@@ -88,27 +91,27 @@ struct Opened<N: PoolName, K: ListKeeper> {
     ghost unused: { IsEmptied pieces × (sent pieces ≡ []) },
     ghost taker: { (ring_at taken ≡ N.ring.trail) × (received taken ≡ []) },
     ghost board_is: { (board.name ≡ N.ring.board) × IsBlank board.lists },
-    ghost seen_is: { (seen.name ≡ N.ring.seen) × IsBlank seen.lists },
+    ghost seen_is: { (seen.name ≡ N.ring.seen) × All (λ list. list ≡ N.past) seen.lists },
 }
 
-/// Makes the sessions of a pool by its rings. `BadClient` where the rings are not made for so many clients, else
-/// `OutOfMemory`; the rings are dropped then.
+/// Makes the sessions of a pool over a core, by its rings. `BadClient` where the rings are not made for as many clients
+/// as the core has, else `OutOfMemory`; the rings are dropped then.
 fn open<N: PoolName, K: ListKeeper>(
     alloc: Global,
-    geometry: Geometry,
-    clients: u8,
+    core: &PoolCore<K>,
     ring: TrailRing,
 ) -> Result<Opened<N, K>, Refusal>
-    requires clients { clients ≡ N.parameters.clients }
-    requires size { geometry.size ≡ N.parameters.size }
+    requires parameters { core.now.parameters ≡ N.parameters }
+    requires past { core.now.past ≡ N.past }
     requires ring { ring ≡ N.ring }
     ensures sessions { IfOk result (λ opened. opened.sessions.items
-        ≡ new_sessions N.parameters.clients) }
+        ≡ new_sessions N.past N.parameters.clients) }
     ensures clients { length N.ring.rings ≢ N.parameters.clients
         → result ≡ Err Refusal.BadClient }
     ensures refused { length N.ring.rings ≡ N.parameters.clients
         → OnErr result (result ≡ Err Refusal.OutOfMemory) }
 {
+    let clients = core.clients();
     if ring.producers.len() != clients as usize {
         return Err(Refusal::BadClient);
     }
@@ -120,7 +123,7 @@ fn open<N: PoolName, K: ListKeeper>(
         producers,
         consumers,
     } = ring;
-    let sessions = new_clients(alloc, geometry, clients, producers, &mut board, &mut seen)?;
+    let sessions = new_clients(alloc, core, producers, &mut board, &mut seen)?;
     Ok(Opened {
         sessions,
         consumers,
@@ -168,8 +171,9 @@ impl<N: PoolName, K: ListKeeper> SharedPool<N, K> {
     ghost use Rattle.bp_shared.specs.Sessions.{new_sessions, IsRoomy, UnfixSaid};
     ghost use Rattle.bp_shared.specs.Telling.{GoesOnFrom};
 
-    /// Makes a pool over a core, one session for each client, in order, and the taker of its trail. The reader is the
-    /// mark's, and has seen all LSNs that the core has marked.
+    /// Makes a pool over a core, one session for each client, in order, and the taker of its trail. Each session has
+    /// seen the trail of the core, and said nothing. The reader is the mark's, and has seen all LSNs that the core has
+    /// marked.
     ///
     /// `BadClient` where the rings are not made for as many clients as the core has; else `OutOfMemory`. All that was
     /// given is dropped then.
@@ -189,13 +193,14 @@ impl<N: PoolName, K: ListKeeper> SharedPool<N, K> {
         requires seen { durable core.past ≤ reader.seen }
         ensures taker { IfOk result (λ made. made.2.past ≡ N.before) }
         ensures pieces { IfOk result (λ made. made.2.pieces ≡ 0) }
-        ensures sessions { IfOk result (λ made. made.1.items ≡ new_sessions N.parameters.clients) }
+        ensures sessions { IfOk result (λ made.
+            made.1.items ≡ new_sessions N.past N.parameters.clients) }
         ensures clients { length N.ring.rings ≢ N.parameters.clients
             → result ≡ Err Refusal.BadClient }
         ensures refused { length N.ring.rings ≡ N.parameters.clients
             → OnErr result (result ≡ Err Refusal.OutOfMemory) }
     {
-        let opened = match open(alloc, core.geometry(), core.clients(), ring) {
+        let opened = match open(alloc, &core, ring) {
             Ok(opened) => opened,
             // Dropped by a call, since a drop at the end of the scope is proved in this function, field by field.
             Err(refusal) => {

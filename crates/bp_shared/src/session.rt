@@ -5,7 +5,7 @@ use crate::names::PoolName;
 use bp_core::{Pass, PassNote, PoolCore};
 use bp_keeper::{Keeper, ListKeeper, RecordingKeeper};
 use bp_page::{Geometry, Refusal};
-use bp_session_log::{Book, Line, Shows};
+use bp_session_log::{Book, Line, Room, Shows};
 use rtrb::Producer;
 use std::alloc::Global;
 use std::marker::{Model, PhantomData};
@@ -80,11 +80,11 @@ impl<N: PoolName, K: ListKeeper> Session<N, K> {
     ghost use Rattle.bp_page.specs.declared.refusals.Refusal.TheVariants as Refusal;
     ghost use Rattle.bp_session_log.specs.Rings.{ring_of};
     ghost use Rattle.bp_shared.specs.Posting.{IsUnused};
-    ghost use Rattle.bp_trail.specs.Script.{held_passes};
+    ghost use Rattle.bp_trail.specs.HeldPasses.{held_passes};
     ghost use Rattle.bp_shared.specs.Sessions.{IsLong, IsRoomy, IsRoomyFor, UnfixSaid};
     ghost use Rattle.bp_shared.specs.Telling.{IsLineOf};
 
-    /// Makes a session with an empty list.
+    /// Makes a session with an empty list, that has seen the trail with which the pool is made.
     pub(crate) fn new(
         alloc: Global,
         geometry: Geometry,
@@ -99,11 +99,11 @@ impl<N: PoolName, K: ListKeeper> Session<N, K> {
         requires ring { slice_index_or N.ring.rings client (ring_of producer)
             ≡ ring_of producer }
         requires line { IsLineOf N.ring.board line client [] }
-        requires seen { (seen.name ≡ N.ring.seen) × (seen.list ≡ []) }
+        requires seen { (seen.name ≡ N.ring.seen) × (seen.list ≡ N.past) }
         ensures client { result.client ≡ client }
         ensures before { result.before ≡ [] }
         ensures said { result.said ≡ [] }
-        ensures seen { result.seen ≡ [] }
+        ensures seen { result.seen ≡ N.past }
         ensures free { result.free ≡ 32 }
         ensures room { result.room ≡ 0 }
         ensures passes { result.passes ≡ 0 }
@@ -161,7 +161,7 @@ impl<N: PoolName, K: ListKeeper> Session<N, K> {
         ensures memory { K.REFUSES ≡ false → IsRoomyFor passes self.old
             → OnErr result (IsLong self.old) }
     {
-        self.book.reserve(4, passes, 2)
+        self.book.reserve(Room::with_passes(passes))
     }
 
     /// Ends the session and returns its book: its own list, and the passes that it holds. It takes no memory.

@@ -8,24 +8,24 @@ use Rattle.bp_page.specs.declared.refusals.Refusal.{Refusal}
 use Rattle.bp_page.specs.Refusals.{number_of}
 use Rattle.bp_trail.specs.declared.entries.Call.TheVariants.{Unfix}
 use Rattle.bp_trail.specs.declared.entries.Reply.TheVariants.{Done}
-use Rattle.bp_trail.specs.declared.scripts.Row.{Row}
-use Rattle.bp_trail.specs.declared.scripts.Step.TheVariants as step
-use Rattle.bp_trail.specs.declared.scripts.Refused.{Refused}
+use Rattle.bp_scripts.specs.declared.rows.Row.{Row}
+use Rattle.bp_scripts.specs.declared.rows.Step.TheVariants as step
+use Rattle.bp_scripts.specs.declared.rows.Refused.{Refused}
 use Rattle.bp_trail.specs.Event.{Grant, grant, same_grant}
 use Rattle.bp_trail.specs.Parameters.{Parameters}
 use Rattle.bp_trail.specs.Passes.{passes_out}
 use Rattle.bp_trail.specs.Legal.{Legal, is_out}
 use Rattle.bp_trail.specs.Pieces.Outcome.{accepted, refused}
 use Rattle.bp_trail.specs.Pieces.Manner.{driver}
-use Rattle.bp_trail.specs.Script.{is_pass_of, Follows}
+use Rattle.bp_scripts.specs.Script.{is_pass_of, Follows}
 use Rattle.bp_trail.proofs.Counting.{reverse-push}
 use Rattle.bp_core.specs.declared.passes.Pass.{Pass}
 use Rattle.bp_core.specs.CoreView.{CoreView, with_entry}
 use Rattle.bp_core.specs.Outcomes.{KnowsPass, TickOutcome}
 use Rattle.bp_device.specs.Drivers.{DrivesFix}
-use Rattle.bp_device.specs.Rows.{DrivesRows, AddsScript}
-use Rattle.bp_device.proofs.PieceSteps.{fix-drives, fix_refused-drives, unfix-drives, no_pass-drives, tick-drives}
-use Rattle.bp_device.proofs.ScriptSteps.{rows-none, rows-step, rows-end, rows-parameters, going-none, going-done, script-done}
+use Rattle.bp_replay.specs.Rows.{DrivesRows, AddsScript}
+use Rattle.bp_replay.proofs.PieceSteps.{fix-drives, fix_refused-drives, unfix-drives, no_pass-drives, tick-drives}
+use Rattle.bp_replay.proofs.ScriptSteps.{rows-none, rows-step, rows-end, rows-parameters, going-none, going-done, script-done}
 use Rattle.bp_trail.specs.declared.totals.Totals.{Totals}
 use Rattle.bp_sweep.specs.Cells.{rows_of, script_from, script_of, Counted}
 use Rattle.bp_sweep.specs.Referring.{HasRun, IsTallied}

@@ -3,14 +3,14 @@
 use Rattle.std.specs.Prelude.{◌≡◌, ℕ, ◌+◌, ◌*◌, ◌^◌, ◌<◌, max, List, [], ◌∷◌, ◌++◌, All}
 use Rattle.bp_page.specs.declared.limits.Geometry.{Geometry}
 use Rattle.bp_replacer.specs.declared.settings.Settings.{Settings}
-use Rattle.bp_trail.specs.declared.scripts.Row.{Row}
-use Rattle.bp_trail.specs.declared.scripts.Step.TheVariants.{Fix, Unfix, Tick}
-use Rattle.bp_trail.specs.declared.scripts.Refused.{Refused}
+use Rattle.bp_scripts.specs.declared.rows.Row.{Row}
+use Rattle.bp_scripts.specs.declared.rows.Step.TheVariants.{Fix, Unfix, Tick}
+use Rattle.bp_scripts.specs.declared.rows.Refused.{Refused}
 use Rattle.bp_trail.specs.Parameters.{Parameters}
 use Rattle.bp_trail.specs.Trail.{Trail}
 use Rattle.bp_trail.specs.Legal.{Legal}
 use Rattle.bp_trail.specs.Pieces.Manner.{driver}
-use Rattle.bp_trail.specs.Script.{Follows}
+use Rattle.bp_scripts.specs.Script.{Follows}
 use Rattle.bp_trail.specs.declared.totals.Totals.{Totals}
 use Rattle.bp_trail.specs.Totals.{totals_of}
 

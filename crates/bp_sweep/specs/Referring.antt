@@ -3,14 +3,14 @@ use Rattle.std.specs.Prelude.{◌≡◌, ℕ, ◌^◌, ◌<◌, ◌≤◌, Bool,
 use Rattle.bp_page.specs.declared.refusals.Refusal.{Refusal}
 use Rattle.bp_page.specs.declared.refusals.Refusal.TheVariants as refusal
 use Rattle.bp_page.specs.Refusals.{number_of}
-use Rattle.bp_trail.specs.declared.scripts.Refused.{Refused}
+use Rattle.bp_scripts.specs.declared.rows.Refused.{Refused}
 use Rattle.bp_trail.specs.Event.{is_write}
 use Rattle.bp_trail.specs.Lists.{every}
 use Rattle.bp_trail.specs.Trail.{Trail}
 use Rattle.bp_core.specs.declared.passes.Pass.{Pass}
 use Rattle.bp_core.specs.CoreView.{CoreView}
 use Rattle.bp_device.specs.Drivers.{DrivesFix}
-use Rattle.bp_device.specs.Rows.{DrivesRows}
+use Rattle.bp_replay.specs.Rows.{DrivesRows}
 use Rattle.bp_trail.specs.declared.totals.Totals.{Totals}
 use Rattle.bp_trail.specs.Totals.{totals_of}
 use Rattle.bp_sweep.specs.Cells.{script_of}

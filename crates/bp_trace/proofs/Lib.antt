@@ -8,6 +8,8 @@ pub mod RowSteps
 pub mod SixFields
 pub mod Writes
 pub mod Pieces
+pub mod KeptLines
+pub mod Reporting
 pub mod Listing
 pub mod Listed
 pub mod Ranges

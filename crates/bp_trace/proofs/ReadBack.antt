@@ -8,11 +8,11 @@ use Rattle.std.proofs.lemmas.List.Elements.{All-head, All-tail}
 use Rattle.hex.specs.Hex.{IsBytes, encode_lower}
 use Rattle.hex.proofs.HexLemmas.{decode_of-encode_lower}
 use Rattle.bp_page.specs.declared.limits.Geometry.{Geometry}
-use Rattle.bp_trail.specs.declared.scripts.Row.{Row}
-use Rattle.bp_trail.specs.declared.scripts.Step.{Step}
-use Rattle.bp_trail.specs.declared.scripts.Step.TheVariants as step
+use Rattle.bp_scripts.specs.declared.rows.Row.{Row}
+use Rattle.bp_scripts.specs.declared.rows.Step.{Step}
+use Rattle.bp_scripts.specs.declared.rows.Step.TheVariants as step
 use Rattle.bp_trail.specs.Parameters.{Parameters}
-use Rattle.bp_trail.specs.Fits.{StepFits}
+use Rattle.bp_scripts.specs.Fits.{StepFits}
 use Rattle.bp_trace.specs.Numbers.{digits_in, number_in}
 use Rattle.bp_trace.specs.Fields.{most_client, page_in, six_of}
 use Rattle.bp_trace.specs.Record.{op_in, row_in, step_in, texts_row, write_in}

@@ -2,11 +2,11 @@
 use Rattle.std.specs.Prelude.{◌≡◌, ℕ, ◌+◌, ◌^◌, ◌<◌, ◌≤◌, All, List, [], ◌∷◌, length}
 use Rattle.hex.specs.Hex.{IsBytes}
 use Rattle.bp_page.specs.declared.limits.Geometry.{Geometry}
-use Rattle.bp_trail.specs.declared.scripts.Row.{Row}
-use Rattle.bp_trail.specs.declared.scripts.Step.{Step}
-use Rattle.bp_trail.specs.declared.scripts.Step.TheVariants as step
+use Rattle.bp_scripts.specs.declared.rows.Row.{Row}
+use Rattle.bp_scripts.specs.declared.rows.Step.{Step}
+use Rattle.bp_scripts.specs.declared.rows.Step.TheVariants as step
 use Rattle.bp_trail.specs.Parameters.{Parameters}
-use Rattle.bp_trail.specs.Fits.{RowFits}
+use Rattle.bp_scripts.specs.Fits.{RowFits}
 use Rattle.bp_trace.specs.Fields.{most_client}
 use Rattle.bp_trace.specs.Script.{most_rows}
 

@@ -14,4 +14,5 @@ pub mod Totals
 pub mod Report
 pub mod Counts
 pub mod Pieces
+pub mod KeptLines
 pub mod NumberLists

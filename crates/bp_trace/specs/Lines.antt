@@ -5,7 +5,7 @@ use Rattle.hex.specs.Hex.{encode_lower}
 use Rattle.bp_trail.specs.declared.entries.Entry.{Entry}
 use Rattle.bp_trail.specs.declared.entries.Reply.{Reply}
 use Rattle.bp_trail.specs.declared.entries.Reply.TheVariants.{Load, Cleaned, StillDirty, Content, Discarded}
-use Rattle.bp_trail.specs.declared.scripts.Refused.{Refused}
+use Rattle.bp_scripts.specs.declared.rows.Refused.{Refused}
 use Rattle.bp_trail.specs.Event.{page_of}
 
 -- a page left its frame for another

@@ -3,7 +3,7 @@ use Rattle.std.specs.Prelude.{◌≡◌, ◌⊎◌, ℕ, ◌<◌, false, List, l
 use Rattle.csv.specs.Machine.{ends_at_end}
 use Rattle.csv.specs.Reading.{default_config, records_from, source_of}
 use Rattle.csv.specs.declared.reader.Reader.{Reader}
-use Rattle.bp_trail.specs.declared.scripts.Row.{Row}
+use Rattle.bp_scripts.specs.declared.rows.Row.{Row}
 use Rattle.bp_trace.specs.declared.faults.TraceFault.{TraceFault}
 use Rattle.bp_trace.specs.Script.{IsOutside}
 

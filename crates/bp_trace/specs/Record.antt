@@ -4,9 +4,9 @@ use Rattle.std.specs.Str.{bytes_eq}
 use Rattle.bp_page.specs.declared.limits.Geometry.{Geometry}
 use Rattle.bp_trace.specs.declared.faults.InputFault.{InputFault}
 use Rattle.bp_trace.specs.declared.faults.InputFault.TheVariants as input_fault
-use Rattle.bp_trail.specs.declared.scripts.Step.{Step}
-use Rattle.bp_trail.specs.declared.scripts.Step.TheVariants as step
-use Rattle.bp_trail.specs.declared.scripts.Row.{Row}
+use Rattle.bp_scripts.specs.declared.rows.Step.{Step}
+use Rattle.bp_scripts.specs.declared.rows.Step.TheVariants as step
+use Rattle.bp_scripts.specs.declared.rows.Row.{Row}
 use Rattle.bp_trace.specs.declared.record.Op.{Op}
 use Rattle.bp_trace.specs.declared.record.Op.TheVariants as op
 use Rattle.bp_trace.specs.Fields.{Texts, ◌>>=◌, bytes_wanted, client_in, number_wanted, or_refuse, page_in, refused_if, six_of}

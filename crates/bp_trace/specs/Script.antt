@@ -8,7 +8,7 @@ use Rattle.bp_trace.specs.Faults.{fault_number}
 use Rattle.bp_page.specs.declared.limits.Geometry.{Geometry}
 use Rattle.bp_trace.specs.declared.faults.InputFault.{InputFault}
 use Rattle.bp_trace.specs.declared.faults.InputFault.TheVariants as input_fault
-use Rattle.bp_trail.specs.declared.scripts.Row.{Row}
+use Rattle.bp_scripts.specs.declared.rows.Row.{Row}
 use Rattle.bp_trace.specs.declared.faults.TraceFault.{TraceFault}
 use Rattle.bp_trace.specs.Fields.{◌>>=◌, refused_if}
 use Rattle.bp_trace.specs.Record.{row_in}

@@ -2,9 +2,9 @@
 use Rattle.std.specs.Prelude.{ℕ, List, [], ◌∷◌, codes}
 use Rattle.std.specs.Fmt.{decimal}
 use Rattle.hex.specs.Hex.{encode_lower}
-use Rattle.bp_trail.specs.declared.scripts.Row.{Row}
-use Rattle.bp_trail.specs.declared.scripts.Step.{Step}
-use Rattle.bp_trail.specs.declared.scripts.Step.TheVariants as step
+use Rattle.bp_scripts.specs.declared.rows.Row.{Row}
+use Rattle.bp_scripts.specs.declared.rows.Step.{Step}
+use Rattle.bp_scripts.specs.declared.rows.Step.TheVariants as step
 
 -- the fields after the client: op, number, offset, bytes, lsn
 abbrev pub with_number : List ℕ → ℕ → List (List ℕ)

@@ -12,7 +12,7 @@ ghost use Rattle.std.specs.Prelude.{◌<◌};
 ghost use Rattle.bp_trace.specs.NumberLists.{IsRange, doubled, most_listed};
 
 use bp_page::Geometry;
-use bp_trail::Row;
+use bp_scripts::Row;
 
 /// Each number up to 2^62 reads back as itself from its decimal text.
 pub fn printed_number_reads_back(number: u64)

@@ -13,6 +13,7 @@ mod number_lists;
 mod printing;
 mod reasons;
 mod record;
+mod report_keeper;
 mod script;
 mod total_lines;
 
@@ -20,4 +21,5 @@ pub use explaining::explain_fault;
 pub use faults::{InputFault, TraceFault};
 pub use number_lists::{MAX_LISTED, numbers_listed};
 pub use printing::{ReportRun, report, report_rows, report_totals};
+pub use report_keeper::ReportKeeper;
 pub use script::{read_script, read_script_into};

@@ -5,15 +5,16 @@ ghost use Rattle.hex.specs.Hex.{encode_lower};
 ghost use Rattle.bp_trail.specs.Event.{page_of};
 ghost use Rattle.bp_trace.specs.Lines.{event_line, read_line, refused_line};
 
-use bp_trail::{Call, Entry, Refused, Reply};
+use bp_scripts::Refused;
+use bp_trail::{Call, Entry, Reply};
 use std::io;
 use std::io::Write;
 
 /// A report shows at most this many bytes of an image.
-const SHOWN: usize = 16;
+pub(crate) const SHOWN: usize = 16;
 
 /// Returns the number of the page that a call names, or 0 where it names none.
-fn page_of(call: &Call) -> u64
+pub(crate) fn page_of(call: &Call) -> u64
     ensures { result ≡ page_of call.now }
 {
     match call {
@@ -41,7 +42,12 @@ fn write_hex<W: Write>(bytes: &[u8], writer: &mut W) -> io::Result<()>
 }
 
 /// Writes the line of a read: the client, the page and the first 16 bytes of its image.
-fn write_read<W: Write>(client: u8, page: u64, image: &[u8], writer: &mut W) -> io::Result<()>
+pub(crate) fn write_read<W: Write>(
+    client: u8,
+    page: u64,
+    image: &[u8],
+    writer: &mut W,
+) -> io::Result<()>
     ensures { OnOk result (Appends (W.contents writer.old) (W.contents writer.new)
         (read_line client page image.now)) }
 {

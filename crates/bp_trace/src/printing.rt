@@ -5,11 +5,15 @@ ghost use Rattle.bp_trace.specs.Totals.{totals_text};
 ghost use Rattle.bp_trail.specs.Totals.{totals_of};
 ghost use Rattle.bp_trace.specs.Report.{lines_after, report_text, rows_text, steps_of};
 
+mod front;
+mod kept;
 mod pieces;
 
 use crate::lines::{write_event, write_refused};
 use crate::total_lines::write_totals;
-use bp_trail::{Call, Entry, Refused, Totals};
+use bp_scripts::Refused;
+use bp_trail::{Call, Entry, Totals};
+pub use kept::ReportLines;
 pub use pieces::ReportRun;
 use std::io;
 use std::io::Write;

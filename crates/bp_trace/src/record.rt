@@ -7,7 +7,7 @@ ghost use Rattle.bp_trace.specs.Record.{has_extra, is_log, op_in, place_in, row_
 use crate::faults::InputFault;
 use crate::fields::{Fields, parse_client, six_fields, wanted_bytes, wanted_number, wanted_page};
 use bp_page::{Bytes, Geometry, Lsn};
-use bp_trail::{Row, Step};
+use bp_scripts::{Row, Step};
 use csv::ByteRecord;
 use std::alloc::Global;
 

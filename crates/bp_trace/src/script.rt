@@ -11,7 +11,7 @@ use crate::faults::{InputFault, TraceFault};
 use crate::input::read_all;
 use crate::record::parse_row;
 use bp_page::Geometry;
-use bp_trail::Row;
+use bp_scripts::Row;
 use csv::{ByteRecord, Error, ErrorKind, Reader, ReaderBuilder};
 use std::alloc::Global;
 use std::io::Read;

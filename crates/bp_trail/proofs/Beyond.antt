@@ -18,7 +18,7 @@ use Rattle.bp_trail.proofs.Lists.{greatest-with, some-append, some-mono}
 use Rattle.bp_trail.proofs.Events.{event-of}
 use Rattle.bp_trail.proofs.Places.{places, unsaved-ended}
 use Rattle.bp_trail.proofs.WriteAhead.{written_lsn, write_ahead}
-use Rattle.bp_trail.proofs.Logged.{each_before}
+use Rattle.bp_trail.proofs.Since.{each_before}
 use Rattle.bp_trail.proofs.Recovered.{written-put, after_last-front, none-settled, records-skip, records-append, AtLeast, least-parts, durable-grows}
 use Rattle.bp_trail.proofs.UsedAgain.{which-newer}
 use Rattle.bp_trail.proofs.Redoing.{recovers-plain}

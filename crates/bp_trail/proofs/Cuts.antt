@@ -11,7 +11,7 @@ use Rattle.bp_trail.specs.Passes.{passes_out}
 use Rattle.bp_trail.specs.Places.{resident}
 use Rattle.bp_trail.specs.Images.{held}
 use Rattle.bp_trail.specs.Legal.{Legal}
-use Rattle.bp_trail.specs.Device.{HonestSince}
+use Rattle.bp_trail.specs.Device.{HonestOfSince}
 use Rattle.bp_trail.specs.Standing.{Standing, standing}
 use Rattle.bp_trail.specs.Cuts.{Precedes, LeadsOn, Piece, Chained, joined, AnswersBy, ReadsSince, AfterEach}
 use Rattle.bp_trail.proofs.Events.{Event, event-of}
@@ -20,7 +20,7 @@ use Rattle.bp_trail.proofs.Places.{places, out-of_page}
 use Rattle.bp_trail.proofs.Standings.{same-from-standing, standing-from-same}
 use Rattle.bp_trail.proofs.StandingsAlike.{follows}
 use Rattle.bp_trail.proofs.Since.{legal-before}
-use Rattle.bp_trail.proofs.Content.{held-plain-since, honest-of}
+use Rattle.bp_trail.proofs.Content.{held-plain-since}
 
 -- what may follow one history may follow each of the same standing, and leads to the same standing
 pub standing-decides : (c : Parameters) (trail h k : Trail) → Legal c (trail ++ h) → Legal c k → standing c h ≡ standing c k → Precedes c (standing c (trail ++ h)) (trail ++ k)
@@ -47,13 +47,13 @@ read-held c s who l _ _ (page_read k q o) n p image e f =
     (subst (λ z. resident s z ≡ true) x ((places c s l).pinned q (out-of_page who q k (passes_out s) o)), sym y ∙ ap (held s) x)
 read-held c s who l _ _ _ n p image e f = cc
 
-pub reads-since : (c : Parameters) (m : ℕ → List ℕ) (known : ℕ → Option (List ℕ)) (h s : Trail) → Legal c (s ++ h) → ((p : ℕ) → resident h p ≡ true → m p ≡ held h p)
-    → ((p : ℕ) (image : List ℕ) → known p ≡ Some image → image ≡ m p) → HonestSince known s → EachEntry (AnswersBy m known) s
-reads-since c m known h [] l o k d = tt
-reads-since c m known h (e ∷ s) l o k d = record {
-  here = λ n p image i j. let r = read-held c (s ++ h) e.client l.before e.call e.reply (event-of c (s ++ h) e l.here) n p image i j in r.1 ∙ held-plain-since c m known h s p l.before (o p) (k p) (honest-of known p s d.before) r.0;
-  before = reads-since c m known h s l.before o k d.before;
+pub reads-since : (c : Parameters) (m : ℕ → List ℕ) (known : ℕ → Option (List ℕ)) (p : ℕ) (h s : Trail) → Legal c (s ++ h) → (resident h p ≡ true → m p ≡ held h p)
+    → ((image : List ℕ) → known p ≡ Some image → image ≡ m p) → HonestOfSince known p s → EachEntry (AnswersBy m known p) s
+reads-since c m known p h [] l o k d = tt
+reads-since c m known p h (e ∷ s) l o k d = record {
+  here = λ n image i j. let r = read-held c (s ++ h) e.client l.before e.call e.reply (event-of c (s ++ h) e l.here) n p image i j in r.1 ∙ held-plain-since c m known h s p l.before o k d.before r.0;
+  before = reads-since c m known p h s l.before o k d.before;
 }
 
 pub reads-after-each : (c : Parameters) (trail before : Trail) → Legal c (trail ++ before) → ReadsSince c (standing c before) trail
-reads-after-each c trail before l h p m known o k d = reads-since c m known h trail (legal-after-each c trail before l h p) o k d
+reads-after-each c trail before l h leads m known p o k d = reads-since c m known p h trail (legal-after-each c trail before l h leads) o k d

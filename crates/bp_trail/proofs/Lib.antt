@@ -32,8 +32,6 @@ pub mod SecondFix
 pub mod Rows
 pub mod DiscardExamples
 pub mod Comparing
-pub mod Logged
-pub mod InPieces
 pub mod Replies
 pub mod Bytes
 pub mod Recovered

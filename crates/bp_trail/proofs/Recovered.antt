@@ -29,7 +29,7 @@ use Rattle.bp_trail.proofs.Ranges.{sized}
 use Rattle.bp_trail.proofs.Content.{held-plain, sends-plain}
 use Rattle.bp_trail.proofs.Plain.{plain-is_writes}
 use Rattle.bp_trail.proofs.WriteAhead.{written_lsn, write_ahead}
-use Rattle.bp_trail.proofs.Logged.{each_before}
+use Rattle.bp_trail.proofs.Since.{each_before}
 use Rattle.bp_trail.proofs.Bytes.{length-put, from_lsn, Ordered, put-again, put-append}
 
 -- ---- records of writes

@@ -21,7 +21,7 @@ use Rattle.bp_trail.specs.Recovery.GaveBack.{from_opening, since_used_again}
 use Rattle.bp_trail.proofs.Lists.{some-append}
 use Rattle.bp_trail.proofs.Events.{Event, event-of}
 use Rattle.bp_trail.proofs.Events.Event.{page_written}
-use Rattle.bp_trail.proofs.Logged.{each_before}
+use Rattle.bp_trail.proofs.Since.{each_before}
 use Rattle.bp_trail.proofs.Plain.{plain-is_writes}
 use Rattle.bp_trail.proofs.Bytes.{filter-fit, full-bytes, from_lsn, Ordered, ordered-never_fall, ordered-zero, put-append}
 use Rattle.bp_trail.proofs.Recovered.{written-put, none-front, none-settled, kept-there, records-append, every-within, AtLeast, later-from, records-fit, wanted-split, redo-older, legal-there, no-write, honest-there, logged, logged-since, split, is-plain}

@@ -25,7 +25,7 @@ use Rattle.bp_trail.proofs.Events.{Event, event-of}
 use Rattle.bp_trail.proofs.Events.Event.{fix_write, flush_write, read_good, page_written}
 use Rattle.bp_trail.proofs.Places.{places, out-of_page, unsaved-ended}
 use Rattle.bp_trail.proofs.WriteAhead.{written_lsn}
-use Rattle.bp_trail.proofs.Logged.{each_before}
+use Rattle.bp_trail.proofs.Since.{each_before}
 use Rattle.bp_trail.proofs.Bytes.{length-patched, patched-whole, full-bytes, filter-fit, from_lsn, none-older}
 use Rattle.bp_trail.proofs.Recovered.{record-lsn, records-skip, records-append, every-within, AtLeast, later-from, none-front, none-settled, wanted-split, legal-there, no-write, mark-grows, split}
 use Rattle.bp_trail.proofs.Redoing.{HasRecords, Overwritten, has-logged, has-again, records-write, again-cut, again-fit, again-wanted}

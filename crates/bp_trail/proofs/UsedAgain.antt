@@ -25,7 +25,7 @@ use Rattle.bp_trail.proofs.Events.{Event, event-of}
 use Rattle.bp_trail.proofs.Events.Event.{fix_write, flush_write, read_good, page_written}
 use Rattle.bp_trail.proofs.Ranges.{sized}
 use Rattle.bp_trail.proofs.Content.{FaithfulOf, faithful-of-with, sends-with, written_since_sent}
-use Rattle.bp_trail.proofs.Logged.{each_before}
+use Rattle.bp_trail.proofs.Since.{each_before}
 use Rattle.bp_trail.proofs.Bytes.{length-patched, patched-whole, full-bytes, put-append}
 use Rattle.bp_trail.proofs.Recovered.{record-patches, written-put, placed}
 use Rattle.bp_trail.proofs.Plain.{plain-since-write}

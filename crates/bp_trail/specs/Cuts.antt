@@ -9,7 +9,7 @@ use Rattle.bp_trail.specs.Trail.{Trail}
 use Rattle.bp_trail.specs.Places.{resident}
 use Rattle.bp_trail.specs.Images.{held, plain_since}
 use Rattle.bp_trail.specs.Legal.{Legal}
-use Rattle.bp_trail.specs.Device.{HonestSince}
+use Rattle.bp_trail.specs.Device.{HonestOfSince}
 use Rattle.bp_trail.specs.Standing.{Standing, standing}
 
 -- h may be what came before a trail that opens from this standing
@@ -43,19 +43,19 @@ abbrev pub joined : List Piece → Trail
 joined [] = []
 joined (piece ∷ older) = piece.trail ++ joined older
 
--- a read answers the image of the plain map
-abbrev pub AnswersBy : (ℕ → List ℕ) → (ℕ → Option (List ℕ)) → Trail → Entry → Type 0
-AnswersBy m known past e =
-    (n p : ℕ) (image : List ℕ) → e.call ≡ Read n p → e.reply ≡ Content image
+-- a read of p answers the image of the plain map
+abbrev pub AnswersBy : (ℕ → List ℕ) → (ℕ → Option (List ℕ)) → ℕ → Trail → Entry → Type 0
+AnswersBy m known p past e =
+    (n : ℕ) (image : List ℕ) → e.call ≡ Read n p → e.reply ≡ Content image
     → image ≡ plain_since m known past p
 
--- Each read since answers by each plain map that begins with the images held at the opening, over a
--- device that was honest since. At the opening the device was due to give these images too, where
--- that is known. Of a page that was unsaved then, and is discarded before it is written out, it is
--- not: then nothing is asked of the next read of that page, and the plain map takes what it brings
+-- Each read of p since answers by each plain map that begins with the image held at the opening,
+-- over a device that was honest of p since. At the opening the device was due to give this image
+-- too, where that is known. If p was unsaved then, and is discarded before it is written out, it is
+-- not: then nothing is asked of the next read of p, and the plain map takes what it brings
 abbrev pub ReadsSince : Parameters → Standing → Trail → Type 0
 ReadsSince c opening trail =
-    (h : Trail) → Precedes c opening h → (m : ℕ → List ℕ) (known : ℕ → Option (List ℕ))
-    → ((p : ℕ) → resident h p ≡ true → m p ≡ held h p)
-    → ((p : ℕ) (image : List ℕ) → known p ≡ Some image → image ≡ m p) → HonestSince known trail
-    → EachEntry (AnswersBy m known) trail
+    (h : Trail) → Precedes c opening h → (m : ℕ → List ℕ) (known : ℕ → Option (List ℕ)) (p : ℕ)
+    → (resident h p ≡ true → m p ≡ held h p)
+    → ((image : List ℕ) → known p ≡ Some image → image ≡ m p) → HonestOfSince known p trail
+    → EachEntry (AnswersBy m known p) trail

@@ -23,16 +23,13 @@ pub mod Sentences
 pub mod Wording
 -- What a crash leaves, and what redo makes of it.
 pub mod Recovery
--- What the rows of a script make of a trail.
+-- What one call of a client makes of a trail, with all that it asks for.
 pub mod Pieces
-pub mod Script
-pub mod Fits
+pub mod HeldPasses
 -- What a core has room for, and where a piece of a trail leads.
 pub mod Room
 pub mod Standing
 pub mod Cuts
 -- What two lists of one run are compared by, and what is counted of a list.
 pub mod Clients
-pub mod LogBound
-pub mod InPieces
 pub mod Totals

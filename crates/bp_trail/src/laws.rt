@@ -7,8 +7,6 @@ ghost use Rattle.bp_references.specs.Stamp.{burst_at, burst_stamp, IsTimed};
 ghost use Rattle.bp_trail.specs.declared.entries.Entry.{Entry};
 ghost use Rattle.bp_trail.specs.declared.entries.Call.TheVariants.{Fix, ReadEnd, WriteEnd, Discard};
 ghost use Rattle.bp_trail.specs.declared.entries.Reply.TheVariants.{Load, WriteFirst, Fixed, Cleaned};
-ghost use Rattle.bp_trail.specs.declared.scripts.Row.{Row};
-ghost use Rattle.bp_trail.specs.declared.scripts.Refused.{Refused};
 ghost use Rattle.bp_trail.specs.Parameters.{Parameters};
 ghost use Rattle.bp_trail.specs.Lists.{greatest, some, count, after_last, since, EachEntry};
 ghost use Rattle.bp_trail.specs.Event.{Grant, ticket_given, pass_back, read_ticket_back, write_ticket_back, ends_well, begins, begins_of, discards, loads, writes, lsn_written, marked};
@@ -25,11 +23,7 @@ ghost use Rattle.bp_trail.specs.Legal.{is_out, Legal};
 ghost use Rattle.bp_trail.specs.Device.{due, Honest, HonestOf};
 ghost use Rattle.bp_trail.specs.Standing.{Standing, standing};
 ghost use Rattle.bp_trail.specs.Cuts.{Precedes, AfterEach, Piece, Chained, joined, ReadsSince};
-ghost use Rattle.bp_trail.specs.Pieces.{Manner};
-ghost use Rattle.bp_trail.specs.Script.{FollowsBy, Follows};
 ghost use Rattle.bp_trail.specs.Clients.{of_client};
-ghost use Rattle.bp_trail.specs.LogBound.{row_at, is_unfix, IsWithinLog};
-ghost use Rattle.bp_trail.specs.InPieces.{InPieceOf, BoundedByItsRow};
 ghost use Rattle.bp_trail.specs.Totals.{both, totals_of};
 ghost use Rattle.bp_trail.specs.Safety.{EvictsSafely, DiscardsSafely, WritesAreDurable, Safe};
 ghost use Rattle.bp_trail.specs.Claims.{HeldIsPlain, ReadsAreKnown, FindsDue, AnswersPlain, SendsPlain};
@@ -353,8 +347,8 @@ pub fn standings_decide_what_may_come()
 {}
 
 /// Pieces of a trail, each of which opens where the one before it led, are one legal trail when they are joined. Over
-/// a device that was honest since, the reads of a piece answer by each plain map that begins with the images held at
-/// its opening.
+/// a device that was honest of a page since, the reads of it in a piece answer by each plain map that begins with the
+/// image held at its opening.
 pub fn pieces_are_one_legal_trail()
     ensures joined { (c : Parameters) (pieces : List Piece) (next : Standing) →
         Chained c pieces next → Precedes c next (joined pieces) }
@@ -366,25 +360,6 @@ pub fn pieces_are_one_legal_trail()
 pub fn one_client_in_either_order()
     ensures { (client : ℕ) (entries : List Entry) → of_client client (reverse entries) ≡ reverse
         (of_client client entries) }
-{}
-
-/// The row that `row_at` counts to is the row in whose piece the entry stands, by the very cut that says that the
-/// entries follow the rows.
-pub fn entry_is_in_the_piece_of_its_row()
-    ensures { (m : Manner) (rows : List Row) (ends : List ℕ) (past newer older : Trail)
-        (e : Entry) (refusals : List Refused) (cut : FollowsBy m rows ends past refusals) →
-        past ≡ newer ++ e ∷ older → InPieceOf m (row_at (reverse ends)
-        (length older)) e older rows ends past refusals cut }
-{}
-
-/// What `is_within_log` tests is the bound. Where it holds by the cut by which the entries of client 0 follow its
-/// script, each entry of client 0 that is no unfix stands in the piece of a row, and the greatest LSN marked up to and
-/// with that entry is at most the greatest of the log rows before that row.
-pub fn marks_are_bounded_row_by_row()
-    ensures { (m : Manner) (script : List Row) (trail newer past said : Trail) (e : Entry)
-        (refusals : List Refused) (cut : Follows m script said refusals) →
-        said ≡ of_client 0 trail → IsWithinLog script cut.ends trail → trail ≡ newer ++ e ∷ past →
-        e.client ≡ 0 → is_unfix e.call ≡ false → BoundedByItsRow m script said refusals cut past e }
 {}
 
 /// The totals of two lists, one after the other, are those of each together: so the pieces of a trail that was cut have

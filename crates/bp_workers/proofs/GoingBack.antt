@@ -3,7 +3,7 @@ use Rattle.std.proofs.Common.{◌≡◌, sym, ◌∙◌, subst, ℕ, arith, suc,
 use Rattle.std.specs.Prelude.{slice_get}
 use Rattle.bp_trail.specs.Event.{Grant}
 use Rattle.bp_trail.specs.Trail.{Trail}
-use Rattle.bp_trail.specs.Script.{held_passes, unfix_of}
+use Rattle.bp_trail.specs.HeldPasses.{held_passes, unfix_of}
 use Rattle.bp_workers.specs.Giving.{GoBack}
 use Rattle.bp_workers.specs.Giving.GoBack.{no_more, one_more}
 

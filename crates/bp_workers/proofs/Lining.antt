@@ -5,7 +5,7 @@ use Rattle.std.proofs.lemmas.List.{append_assoc, append-nil}
 use Rattle.std.proofs.lemmas.List.Elements.{All-nil, All-cons}
 use Rattle.bp_page.specs.declared.limits.Geometry.{Geometry}
 use Rattle.bp_trail.specs.Parameters.{Parameters}
-use Rattle.bp_trail.specs.Script.{held_passes}
+use Rattle.bp_trail.specs.HeldPasses.{held_passes}
 use Rattle.bp_trail.specs.Trail.{Trail}
 use Rattle.bp_trail.specs.Clients.{of_client}
 use Rattle.bp_core.specs.CoreView.{CoreView}
@@ -57,24 +57,24 @@ all_beside P all (x ∷ rest) made b none = absurd (omega (arith, none))
 
 abbrev pub sessions_from : ℕ → ℕ → List SessionValue
 sessions_from first zero = []
-sessions_from first (suc n) = new_session first ∷ sessions_from (suc first) n
+sessions_from first (suc n) = new_session [] first ∷ sessions_from (suc first) n
 
-one_more : (first n : ℕ) → sessions_from first (suc n) ≡ sessions_from first n ++ new_session (first + n) ∷ []
-one_more first zero = ap (λ c. new_session c ∷ []) (omega arith)
-one_more first (suc n) = ap (λ ss. new_session first ∷ ss) (one_more (suc first) n ∙ ap (λ c. sessions_from (suc first) n ++ new_session c ∷ []) (omega arith))
+one_more : (first n : ℕ) → sessions_from first (suc n) ≡ sessions_from first n ++ new_session [] (first + n) ∷ []
+one_more first zero = ap (λ c. new_session [] c ∷ []) (omega arith)
+one_more first (suc n) = ap (λ ss. new_session [] first ∷ ss) (one_more (suc first) n ∙ ap (λ c. sessions_from (suc first) n ++ new_session [] c ∷ []) (omega arith))
 
-pub in_order : (n : ℕ) → new_sessions n ≡ sessions_from 0 n
+pub in_order : (n : ℕ) → new_sessions [] n ≡ sessions_from 0 n
 in_order zero = refl
-in_order (suc n) = ap (λ ss. ss ++ new_session n ∷ []) (in_order n) ∙ sym (one_more 0 n ∙ ap (λ c. sessions_from 0 n ++ new_session c ∷ []) (omega arith))
+in_order (suc n) = ap (λ ss. ss ++ new_session [] n ∷ []) (in_order n) ∙ sym (one_more 0 n ∙ ap (λ c. sessions_from 0 n ++ new_session [] c ∷ []) (omega arith))
 
 -- the session that comes next, and those after it
 pub record NextSession (n left : ℕ) (s : SessionValue) (rest : List SessionValue) : Type 0 where
-  pub is : s ≡ new_session n
+  pub is : s ≡ new_session [] n
   pub after : rest ≡ sessions_from (suc n) left
 
 pub next_session : (n m left : ℕ) (sessions rest : List SessionValue) (s : SessionValue) → sessions ≡ sessions_from n m → sessions ≡ s ∷ rest → m ≡ suc left → NextSession n left s rest
 next_session n m left sessions rest s are begins some =
-    let same : s ∷ rest ≡ new_session n ∷ sessions_from (suc n) left = sym begins ∙ are ∙ ap (sessions_from n) some in
+    let same : s ∷ rest ≡ new_session [] n ∷ sessions_from (suc n) left = sym begins ∙ are ∙ ap (sessions_from n) some in
     record { is = cc; after = cc }
 
 -- ---- jobs
@@ -98,7 +98,7 @@ all_ready n (x ∷ given) (j ∷ jobs) each =
     let new = each.0 in
     let client : n ≡ j.session.client = sym (ap (λ s. s.client) new.session) in
     All-cons IsReady j jobs (record {
-      new = new.session ∙ ap new_session client;
+      new = new.session ∙ ap (new_session []) client;
       upkeep = new.upkeep ∙ ap new_upkeep client;
     }) (all_ready (suc n) given jobs each.1)
 all_ready n [] (j ∷ jobs) each = absurd each

@@ -2,7 +2,7 @@
 use Rattle.std.specs.Prelude.{◌≡◌, List, ◌∷◌, All}
 use Rattle.bp_trail.specs.Event.{Grant}
 use Rattle.bp_trail.specs.Trail.{Trail}
-use Rattle.bp_trail.specs.Script.{held_passes, unfix_of}
+use Rattle.bp_trail.specs.HeldPasses.{held_passes, unfix_of}
 
 -- some of the passes held, which are one client's, go back, that taken first before the others
 pub data GoBack : Trail → Trail → Type 0 where

@@ -2,7 +2,7 @@
 use Rattle.std.specs.Prelude.{◌≡◌, ◌↔◌, ℕ, suc, Bool, true, List, [], ◌∷◌, length, Option, None, is_some}
 use Rattle.bp_page.specs.declared.limits.Geometry.{Geometry}
 use Rattle.bp_trail.specs.Parameters.{Parameters}
-use Rattle.bp_trail.specs.Script.{held_passes}
+use Rattle.bp_trail.specs.HeldPasses.{held_passes}
 use Rattle.bp_trail.specs.Trail.{Trail}
 use Rattle.bp_shared.specs.Sessions.{SessionValue, new_session}
 use Rattle.bp_shared.specs.Telling.{GoesOnFrom, IsListOf}
@@ -18,9 +18,9 @@ pub record JobValue (W P : Type 0) : Type 0 where
   pub held : ℕ
   pub all_went_back : Bool
 
--- its session said nothing yet, and it has the upkeep where it is of client 0
+-- its session said nothing and saw an empty trail, and it has the upkeep where it is of client 0
 pub record IsReady {W P : Type 0} (j : JobValue W P) : Type 0 where
-  pub new : j.session ≡ new_session j.session.client
+  pub new : j.session ≡ new_session [] j.session.client
   pub upkeep : j.upkeep ≡ new_upkeep j.session.client
 
 -- the device has the pages of the pool's file

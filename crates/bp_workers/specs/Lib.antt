@@ -7,9 +7,3 @@ pub mod Runs
 -- What a fix that waits adds to its client's list, and how far it raises a mark.
 pub mod Logs
 pub mod Tries
--- Scripts, each played by a worker.
-pub mod Steps
-pub mod Scripts
-pub mod Players
-pub mod Rules
-pub mod ScriptRuns

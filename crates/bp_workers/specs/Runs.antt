@@ -4,7 +4,7 @@ use Rattle.bp_page.specs.declared.limits.Geometry.{Geometry}
 use Rattle.bp_page.specs.declared.refusals.Refusal.{Refusal}
 use Rattle.bp_page.specs.declared.refusals.Refusal.TheVariants as refusal
 use Rattle.bp_trail.specs.Clock.{durable}
-use Rattle.bp_trail.specs.Script.{held_passes}
+use Rattle.bp_trail.specs.HeldPasses.{held_passes}
 use Rattle.bp_trail.specs.Clients.{of_client}
 use Rattle.bp_core.specs.CoreView.{CoreView}
 use Rattle.bp_core.specs.Outcomes.{IsFitUpTo}
@@ -76,5 +76,5 @@ pub record LeftBy {P W K I B S : Type 0} (core : CoreView) (geometry_of : P → 
 pub record IsNewJob {W P : Type 0} (client : ℕ) (given : W × P) (j : JobValue W P) : Type 0 where
   pub worker_is : j.worker ≡ given.0
   pub port_is : j.port ≡ given.1
-  pub session : j.session ≡ new_session client
+  pub session : j.session ≡ new_session [] client
   pub upkeep : j.upkeep ≡ new_upkeep client

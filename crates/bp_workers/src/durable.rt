@@ -3,6 +3,7 @@ ghost use Rattle.std.specs.Prelude.{◌≡◌, ◌<◌, false, OnOk, IfErr};
 ghost use Rattle.bp_page.specs.declared.refusals.Refusal.TheVariants as Refusal;
 ghost use Rattle.bp_shared.specs.Keeping.{KeepsSession, MayAct};
 ghost use Rattle.bp_shared.specs.Sessions.{DoesWorkSaid, IsRoomy};
+ghost use Rattle.bp_shared.specs.Writing.{WithLsnSeen};
 ghost use Rattle.bp_workers.specs.Logs.{RaisesWithin};
 ghost use Rattle.bp_workers.specs.Tries.{GivesUp, GoesOn, Tries};
 
@@ -26,6 +27,7 @@ pub trait Asked<N: PoolName, K: ListKeeper> {
     ghost use Rattle.bp_session_log.specs.Turns.{TickSaid};
     ghost use Rattle.bp_shared.specs.Keeping.{KeepsSession};
     ghost use Rattle.bp_shared.specs.Sessions.{DoesWorkSaid, IsRoomy};
+    ghost use Rattle.bp_shared.specs.Writing.{WithLsnSeen};
     ghost use Rattle.bp_workers.specs.Tries.{Fixes, Ticks};
 
     // A fix of a page gives a client an answer, and leads from its list, as it was, to it, as it is.
@@ -51,7 +53,7 @@ pub trait Asked<N: PoolName, K: ListKeeper> {
         ensures gives { fixes session.old.client page result session.old.said session.new.said }
         ensures roomy { OnOk result (IsRoomy session.new) }
         ensures known { result ≢ Err Refusal.UnknownTicket }
-        ensures work { DoesWorkSaid P.read_gives P.write_gives
+        ensures work { DoesWorkSaid P.read_gives (WithLsnSeen session.old session.new P.write_gives)
             session.old.said session.new.said port.old port.new };
 
     /// Moves the clock on, as [`SharedPool::tick`] does.
@@ -239,7 +241,8 @@ fn overcome<N: PoolName, K: ListKeeper, A: Asked<N, K>, L: DurableLog<N>, R: Wai
 ///
 /// Each try adds what a fix adds. One that is refused so adds an entry, and one more where the durable mark has risen,
 /// one for each wait for another client's device work, and two for each victim that went out before. The clock's move
-/// adds one. The device does the work of the entries, and nothing else.
+/// adds one. The device does the work of the entries, and nothing else: each write has the page LSN that the page had
+/// when its write-out began, as from `fix`.
 ///
 /// Any other refusal is answered at once, as the fix gave it. `NoVictim` is answered only where the rounds are over,
 /// and `NeedLog` only there or where the log did not get durable so far. Where the tick is refused its refusal is
@@ -264,7 +267,8 @@ pub fn fix_durably<N: PoolName, P: Port, K: ListKeeper, A: Asked<N, K>, L: Durab
     ensures outcome { Tries A.fixes A.ticks client.old.session.client page patience.ticks
         (L.durable_to log.new) (L.raised_to log.new) patience.rounds false result
         client.old.session.said client.new.session.said }
-    ensures work { DoesWorkSaid P.read_gives P.write_gives
+    ensures work { DoesWorkSaid P.read_gives
+        (WithLsnSeen client.old.session client.new.session P.write_gives)
         client.old.session.said client.new.session.said client.old.port client.new.port }
 {
     let mut is_ticked = false;

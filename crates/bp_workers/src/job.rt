@@ -36,7 +36,7 @@ impl<N: PoolName, P: Port, K: ListKeeper, W: Worker<P, K>> Model for Job<N, P, K
 }
 
 impl<N: PoolName, P: Port, K: ListKeeper, W: Worker<P, K>> Job<N, P, K, W> {
-    ghost use Rattle.std.specs.Prelude.{◌≡◌};
+    ghost use Rattle.std.specs.Prelude.{◌≡◌, []};
     ghost use Rattle.bp_shared.specs.Posting.{TakesBack};
     ghost use Rattle.bp_workers.specs.Workers.{held_upkeep};
     ghost use Rattle.bp_workers.specs.Jobs.{IsReady, Ran, IsLeftOf};
@@ -62,6 +62,7 @@ impl<N: PoolName, P: Port, K: ListKeeper, W: Worker<P, K>> Job<N, P, K, W> {
 
     /// Lets the worker do its work, and then gives back the passes that it still holds.
     pub(crate) fn run<R: Wait>(&mut self, rt: &R, pool: &SharedPool<N, K>)
+        requires empty { N.past ≡ [] }
         requires ready { IsReady self.old }
         ensures ran { Ran W.leaves self.old self.new }
     {

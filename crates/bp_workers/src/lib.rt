@@ -3,14 +3,13 @@
 //!
 //! `run_workers` picks the name on which pool, sessions and mark agree, so that its callers need not. It returns the
 //! workers, their lists and the core, whose trail is one legal history. `run_workers_over` does so over a pool of any
-//! kind. `run_clients` runs scripts, each of which is played by a worker.
+//! kind.
 #![tactic(auto)]
 
 pub mod durable;
 mod job;
 pub mod kinds;
 pub mod run;
-pub mod scripts;
 mod unfixing;
 pub mod worker;
 
@@ -19,5 +18,4 @@ pub use bp_shared::LogWriter;
 pub use durable::{Asked, DurableLog, Leading, Log, Patience, fix_durably};
 pub use kinds::Kind;
 pub use run::{Run, run_workers, run_workers_over};
-pub use scripts::{Outcome, run_clients, scripts_fit};
 pub use worker::{Client, Left, Upkeep, Worker};

@@ -42,7 +42,7 @@ fn make_jobs<N: PoolName, P: Port, K: ListKeeper, W: Worker<P, K>>(
     workers: Vec<W>,
     upkeep: Upkeep<N>,
 ) -> Result<Vec<Job<N, P, K, W>>, Refusal>
-    requires sessions { sessions.items ≡ new_sessions (vec_len workers) }
+    requires sessions { sessions.items ≡ new_sessions [] (vec_len workers) }
     requires ports { vec_len ports ≡ vec_len workers }
     requires of_pool { All (λ p. IsOfPool N.parameters (P.geometry_of p)) ports.items }
     requires unused { upkeep_value upkeep ≡ unused_upkeep }
@@ -80,6 +80,7 @@ fn run_jobs<
     W: Worker<P, K> + Send,
     R: Threads + Wait + Sync,
 >(rt: &R, pool: &SharedPool<N, K>, jobs: &mut [Job<N, P, K, W>])
+    requires empty { N.past ≡ [] }
     requires some { 0 < length jobs.old }
     requires ready { All IsReady jobs.old }
     ensures counted { length jobs.new ≡ length jobs.old }

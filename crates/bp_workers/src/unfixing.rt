@@ -1,6 +1,6 @@
 //! `unfix_all`: gives back the passes that a worker still holds when it returns.
 ghost use Rattle.std.specs.Prelude.{◌≡◌, ◌↔◌, IsTrue, []};
-ghost use Rattle.bp_trail.specs.Script.{held_passes};
+ghost use Rattle.bp_trail.specs.HeldPasses.{held_passes};
 ghost use Rattle.bp_workers.specs.Giving.{GoBack};
 
 use bp_keeper::ListKeeper;

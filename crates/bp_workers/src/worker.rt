@@ -34,7 +34,7 @@ pub struct Upkeep<N: PoolName> {
 /// since the run waits for all workers. The session that it leaves is still its client's, as each call of the pool
 /// leaves it.
 pub trait Worker<P: Port, K: ListKeeper>: Drop {
-    ghost use Rattle.std.specs.Prelude.{◌≡◌, ◌<◌, Some, None};
+    ghost use Rattle.std.specs.Prelude.{◌≡◌, ◌<◌, [], Some, None};
     ghost use Rattle.bp_shared.specs.Sessions.{new_session};
     ghost use Rattle.bp_workers.specs.Workers.{Leaving, upkeep_value, unused_upkeep};
 
@@ -49,7 +49,7 @@ pub trait Worker<P: Port, K: ListKeeper>: Drop {
         pool: &SharedPool<N, K>,
         client: &mut Client<N, P, K>,
     )
-        requires new { client.old.session ≡ new_session client.old.session.client }
+        requires new { client.old.session ≡ new_session N.past client.old.session.client }
         requires other { 0 < client.old.session.client }
         ensures whose { client.new.session.client ≡ client.old.session.client }
         ensures leaves { leaves client.old.session.client self.old client.old.port
@@ -63,7 +63,7 @@ pub trait Worker<P: Port, K: ListKeeper>: Drop {
         client: &mut Client<N, P, K>,
         upkeep: &mut Upkeep<N>,
     )
-        requires new { client.old.session ≡ new_session 0 }
+        requires new { client.old.session ≡ new_session N.past 0 }
         requires unused { upkeep_value upkeep.old ≡ unused_upkeep }
         ensures whose { client.new.session.client ≡ client.old.session.client }
         ensures leaves { leaves 0 self.old client.old.port

@@ -37,7 +37,7 @@ pub use bp_workers::{
 
 // The shared pool that workers use, and its parts, for an engine that runs its own threads.
 pub use bp_mark::{LogEnd, Mark, Reader};
-pub use bp_session_log::Book;
+pub use bp_session_log::{Book, Room};
 pub use bp_shared::{
     ClosedPool, LogWriter, Parts, PoolName, Receipt, Session, SharedPool, SilentPool,
     SilentSession, Taker, TrailRing,

@@ -2,12 +2,13 @@
 ghost use Rattle.std.specs.Prelude.{◌≡◌, IfOk};
 
 use crate::outcomes::went;
-use bp_device::{FusePort, MemDevice, MemPort, Port};
+use bp_device::{MemDevice, MemPort, Port};
 use bp_page::{Bytes, Geometry, Lsn, PageNo, PortFault, Refusal};
 use bp_trail::Reply;
 use scenario_words::{Answer, Said, Shape, Thing, Verb, filled};
 use std::alloc::Global;
 use std::sync::Wait;
+use test_ports::FusePort;
 
 /// A device in memory, and a port to it of which one call may fail.
 #[derive(Drop)]

@@ -7,12 +7,13 @@ use crate::observing::{answer_of_page, digest_of};
 use crate::outcomes::{discarded, done, flushed, flushed_all, forgot, lsn_or_none, stats_of, went};
 use crate::pools::{Pool, pool_of};
 use bp_core::{Keeper, PoolCore, Settings};
-use bp_device::{FusePort, MemDevice, MemPort, OwnedPool, Port};
+use bp_device::{MemDevice, MemPort, OwnedPool, Port};
 use bp_page::{Geometry, Image, Lsn, PageNo, Refusal};
 use bp_trail::{Grant, Reply};
 use scenario_words::{Answer, Said, Shape, Verb, named};
 use std::alloc::Global;
 use std::sync::Wait;
+use test_ports::FusePort;
 
 /// A pool with one owner, its device, and what it gave.
 #[derive(Drop)]

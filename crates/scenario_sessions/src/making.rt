@@ -7,12 +7,13 @@ use crate::clients::Note;
 use crate::kinds::Kind;
 use crate::ports::NotingPort;
 use bp_core::{PoolCore, Settings};
-use bp_device::{FusePort, MemDevice, MemPort, Port};
+use bp_device::{MemDevice, MemPort, Port};
 use bp_page::{Geometry, Refusal};
 use bp_shared::Parts;
 use scenario_cores::{Device, Lists, new_device, new_lists};
 use scenario_words::Shape;
 use std::alloc::Global;
+use test_ports::FusePort;
 
 /// A port of which one call may fail.
 pub(crate) type Fused = FusePort<MemPort>;

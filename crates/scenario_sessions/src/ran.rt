@@ -2,7 +2,7 @@
 
 use bp_check::Setup;
 use bp_core::{Call, Entry, Reply};
-use bp_workers::Outcome;
+use bp_replay::Outcome;
 use scenario_cores::Device;
 use scenario_words::{Answer, Said, Verb, entry_of, refusals_of, totals_of};
 use std::alloc::Global;

@@ -2,9 +2,10 @@
 
 use crate::answers::Answers;
 use crate::scripts::Asked;
-use bp_core::{Entry, Refused, Reply};
+use bp_core::{Entry, Reply};
 use bp_page::Image;
-use bp_workers::Outcome;
+use bp_replay::Outcome;
+use bp_scripts::Refused;
 use scenario_words::Answer;
 use std::alloc::Global;
 

@@ -7,16 +7,18 @@ use crate::making::{new_port, new_ports};
 use crate::ran::Ran;
 use crate::scripts::{Asked, Script, script_of};
 use bp_check::Setup;
-use bp_core::{Row, Settings};
-use bp_device::{FusePort, GatePort, MemDevice, MemPort, Port};
+use bp_core::Settings;
+use bp_device::{MemDevice, MemPort, Port};
 use bp_page::{Geometry, Refusal};
-use bp_workers::{Config, Outcome, run_clients, scripts_fit};
+use bp_replay::{Config, Outcome, run_clients, scripts_fit};
+use bp_scripts::Row;
 use scenario_cores::{Device, new_device};
 use scenario_words::Shape;
 use std::alloc::Global;
 use std::marker::{Send, Sync};
 use std::sync::Wait;
 use std::thread::Threads;
+use test_ports::{FusePort, GatePort};
 
 #[derive(Drop)]
 struct Run {

@@ -1,7 +1,7 @@
 //! `Script`, the lines of a run as rows of its client threads.
 
-use bp_core::{Row, Step};
 use bp_page::Geometry;
+use bp_scripts::{Row, Step};
 use bp_trace::read_script;
 use std::alloc::Global;
 

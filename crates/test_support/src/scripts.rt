@@ -1,9 +1,10 @@
 //! Scripts as text, with a row of a trace on each line.
 ghost use Rattle.std.specs.Prelude.{◌≡◌, All, IsTrue};
-ghost use Rattle.bp_trail.specs.Fits.{RowFits};
+ghost use Rattle.bp_scripts.specs.Fits.{RowFits};
 
-use bp_core::{Core, Row, Step};
+use bp_core::Core;
 use bp_page::Geometry;
+use bp_scripts::{Row, Step};
 use bp_trace::{InputFault, TraceFault, read_script};
 use std::alloc::Global;
 

@@ -3,8 +3,8 @@ ghost use Rattle.std.specs.Prelude.{◌≤◌};
 
 use crate::making::{NINE, expect_page, image, put};
 use bp_core::{RecordingKeeper, Settings};
-use bp_device::{FilePort, OpenFault, OwnedPool, Port};
-use bp_page::{Format, Image, Lsn, PageNo, PortFault, Refusal, slot2, unslot2};
+use bp_device::{FilePort, OpenFault, OwnedPool, Port, create_page_file};
+use bp_page::{Format, Geometry, Image, Lsn, PageNo, PortFault, Refusal, slot2, unslot2};
 use std::fs::File;
 use std::path::PathBuf;
 use std::process::Abort;
@@ -157,6 +157,28 @@ fn file_lengths(rt: HostRuntime) {
     fs::remove_file(&rt, path.as_path()).expect(&rt, "the file is removed");
     let absent = FilePort::open(&rt, rt.alloc(), path.as_path(), 16, Format::Plain);
     assert!(rt; matches!(absent, Err(OpenFault::Port(PortFault::Device))));
+}
+
+/// Makes a file of two pages of 4,096 bytes, and asserts that each has zeros.
+fn expect_new_file<R: Files<File = File> + Wait + Abort + AllocGlobal>(
+    rt: &R,
+    path: &str,
+    format: Format,
+) {
+    let geometry = Geometry::new(2, 4096).expect(rt, "the geometry");
+    let made = create_page_file(rt, rt.alloc(), path, geometry, format);
+    let mut port = made.expect(rt, "the page file");
+    expect_page(rt, &mut port, 0, &[0; 4096]);
+    expect_page(rt, &mut port, 1, &[0; 4096]);
+    fs::remove_file(rt, path).expect(rt, "the file is removed");
+}
+
+#[test]
+fn new_files_of_large_pages(rt: HostRuntime) {
+    let path = scratch(&rt, process::id(rt.process()), "large");
+    let name = path.as_path().as_str();
+    expect_new_file(&rt, name, Format::Plain);
+    expect_new_file(&rt, name, Format::Headed);
 }
 
 /// Opens a file of these bytes, and asserts that a write of 32 bytes fails and leaves the file as it was.

@@ -1,10 +1,11 @@
 //! Pairs of ports whose calls wait for one another.
 use crate::making::{NINE, ZEROS, config, device, expect_page, fuse, image, put};
-use bp_device::{FusePort, GatePort, MemDevice, MemPort, Port};
+use bp_device::{MemDevice, MemPort, Port};
 use bp_page::{Image, Lsn, PageNo, PortFault};
 use std::process::Abort;
 use std::sync::Wait;
 use std::thread;
+use test_ports::{FusePort, GatePort};
 
 /// A pair of ports to a device. A call of one looks so often for a call of the other.
 fn pair<R: Abort + AllocGlobal>(

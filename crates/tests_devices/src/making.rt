@@ -2,13 +2,14 @@
 ghost use Rattle.std.specs.Prelude.{◌≡◌, All, vec_len};
 
 use bp_core::{Entry, Settings};
-use bp_device::{FusePort, MemDevice, MemPort, Port};
+use bp_device::{MemDevice, MemPort, Port};
 use bp_page::{Geometry, Image, Lsn, PageNo};
-use bp_workers::{Config, Outcome, run_clients, scripts_fit};
+use bp_replay::{Config, Outcome, run_clients, scripts_fit};
 use std::marker::Sync;
 use std::process::Abort;
 use std::sync::Wait;
 use std::thread::Threads;
+use test_ports::FusePort;
 use test_support::judging::{setup_of_run, unlawful};
 use test_support::scripts::scripts_of;
 

@@ -1,8 +1,8 @@
 //! Two clients over one frame, where one call of one port fails.
 use crate::making::{Failing, NINE, ZEROS, config, device, run};
 use bp_core::Reply;
+use bp_replay::Outcome;
 use bp_trail::Totals;
-use bp_workers::Outcome;
 use std::process::Abort;
 
 /// Each client changes page 1, which has to go out for page 2. Page 2 stays pinned, so page 1 may find no frame.

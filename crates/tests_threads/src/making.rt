@@ -4,13 +4,14 @@ ghost use Rattle.bp_page.specs.declared.limits.Geometry.{Geometry as AGeometry};
 
 use crate::gates::{Gate, HeldPort};
 use bp_core::PassNote;
-use bp_device::{FusePort, MemDevice, MemPort, Port};
+use bp_device::{MemDevice, MemPort, Port};
 use bp_page::{PageNo, Refusal};
 use bp_shared::{PoolName, Session, SharedPool};
 use bp_trail::Totals;
 use bp_workers::Client;
 use std::process::Abort;
 use std::sync::Wait;
+use test_ports::FusePort;
 use test_support::pools::{fix, read, unfix, write};
 
 /// The first client's port: its n-th call fails, which for a write may leave a page of bytes 255. None of its calls

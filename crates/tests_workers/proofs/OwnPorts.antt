@@ -3,7 +3,7 @@ use Rattle.std.proofs.Common.{◌≡◌, refl, ap, ℕ, zero, suc, ◌≤◌, ar
 use Rattle.std.specs.Prelude.{IfSome}
 use Rattle.bp_trail.specs.Trail.{Trail}
 use Rattle.bp_trail.specs.Clock.{durable}
-use Rattle.bp_trail.specs.Script.{unfix_of}
+use Rattle.bp_trail.specs.HeldPasses.{unfix_of}
 use Rattle.bp_core.specs.CoreView.{CoreView}
 use Rattle.bp_core.specs.Work.{Reads, Writes}
 use Rattle.bp_shared.specs.Sessions.{DoesWorkSaid}

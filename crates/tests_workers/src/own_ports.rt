@@ -6,7 +6,7 @@ ghost use Rattle.bp_workers.specs.Lists.{SideBySide};
 
 use crate::making::{PAGES, config, expect_lawful};
 use bp_core::RecordingKeeper;
-use bp_device::{FusePort, MemDevice, MemPort, Port};
+use bp_device::{MemDevice, MemPort, Port};
 use bp_page::{Geometry, Refusal};
 use bp_shared::{PoolName, SharedPool};
 use bp_workers::{Client, Config, Left, Run, Upkeep, Worker, run_workers};
@@ -16,6 +16,7 @@ use std::process::Abort;
 use std::rt::HostRuntime;
 use std::sync::Wait;
 use std::thread::Threads;
+use test_ports::FusePort;
 
 /// Fixes one page, and keeps the pass.
 #[derive(Drop)]

@@ -1,5 +1,5 @@
 //! The questions that change nothing: parameters, clock, histories, counts and trail of a core.
-ghost use Rattle.std.specs.Prelude.{◌≡◌, ◌++◌, reverse, ◌≤◌, length};
+ghost use Rattle.std.specs.Prelude.{◌≡◌, ◌+◌, ◌^◌, ◌++◌, reverse, ◌≤◌, length};
 ghost use Rattle.bp_trail.specs.Clock.{clock, durable};
 ghost use Rattle.bp_trail.specs.Places.{resident};
 ghost use Rattle.bp_trail.specs.References.{last, hist};
@@ -111,6 +111,19 @@ impl<K: Keeper> PoolCore<K> {
             loading: self.state.reads.len(),
             writing: self.state.writes.len(),
         }
+    }
+
+    /// Lends the keeper, which has the entries so far. These are few enough, and their time is early enough, for
+    /// numbers of 64 bits.
+    pub fn keeper(&self) -> &K
+        ensures past { (K.kept result.now).past ≡ self.now.past }
+        ensures before { (K.kept result.now).before ≡ self.now.before }
+        ensures count { (K.kept result.now).len + length self.now.before ≡ length self.now.past }
+        ensures room { (K.kept result.now).len ≤ self.now.parameters.room }
+        ensures few { (K.kept result.now).len ≤ 2 ^ 61 }
+        ensures in_time { EachPast self.now (λ past. clock past ≤ 2 ^ 62) }
+    {
+        &self.trail
     }
 }
 

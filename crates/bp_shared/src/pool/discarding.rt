@@ -6,6 +6,7 @@ use crate::session::Session;
 use bp_core::Discarded;
 use bp_keeper::ListKeeper;
 use bp_page::{PageNo, Refusal};
+use bp_session_log::Room;
 use std::sync::Wait;
 
 impl<N: PoolName, K: ListKeeper> SharedPool<N, K> {
@@ -30,7 +31,7 @@ impl<N: PoolName, K: ListKeeper> SharedPool<N, K> {
         ensures memory { K.REFUSES ≡ false → result ≡ Err Refusal.OutOfMemory
             → IsLong session.new }
     {
-        session.book.reserve(1, 0, 0)?;
+        session.book.reserve(Room::ENTRY)?;
         let mut state = self.lock_and_drain(rt, session);
         let answer = state.discard(session, page);
         self.unlock_or_wait(rt, state, &answer);

@@ -9,7 +9,7 @@ use bp_core::{Ended, Pass};
 use bp_keeper::ListKeeper;
 use bp_page::{PageNo, Refusal};
 use bp_ports::Port;
-use bp_session_log::{Fix, PendingRead, PendingWrite};
+use bp_session_log::{Fix, PendingRead, PendingWrite, Room};
 use std::sync::Wait;
 
 impl<N: PoolName, K: ListKeeper> SharedPool<N, K> {
@@ -105,7 +105,7 @@ impl<N: PoolName, K: ListKeeper> SharedPool<N, K> {
             → result ≡ Err Refusal.OutOfMemory
             → IsLong session.new ⊎ WantsMemory (Call.Fix page) N.parameters session.new.seen }
     {
-        session.book.reserve(4, 2, 2)?;
+        session.book.reserve(Room::with_passes(2))?;
         let mut state = self.lock_and_drain(rt, session);
         let answer = state.fix(&self.mark, session, page);
         self.unlock_or_wait(rt, state, &answer);

@@ -7,7 +7,7 @@ use bp_core::Flushed;
 use bp_keeper::ListKeeper;
 use bp_page::{PageNo, Refusal};
 use bp_ports::Port;
-use bp_session_log::Flush;
+use bp_session_log::{Flush, Room};
 use std::sync::Wait;
 
 impl<N: PoolName, K: ListKeeper> SharedPool<N, K> {
@@ -42,7 +42,7 @@ impl<N: PoolName, K: ListKeeper> SharedPool<N, K> {
             → result ≡ Err Refusal.OutOfMemory
             → IsLong session.new ⊎ WantsMemory (Call.Flush page) N.parameters session.new.seen }
     {
-        session.book.reserve(4, 1, 2)?;
+        session.book.reserve(Room::with_passes(1))?;
         let mut state = self.lock_and_drain(rt, session);
         let answer = state.flush(&self.mark, session, page);
         self.unlock_or_wait(rt, state, &answer);

@@ -7,6 +7,7 @@ use crate::session::Session;
 use bp_core::Pass;
 use bp_keeper::ListKeeper;
 use bp_page::{Image, Lsn, Refusal};
+use bp_session_log::Room;
 use std::sync::Wait;
 
 impl<N: PoolName, K: ListKeeper> SharedPool<N, K> {
@@ -28,7 +29,7 @@ impl<N: PoolName, K: ListKeeper> SharedPool<N, K> {
         ensures memory { K.REFUSES ≡ false → result ≡ Err Refusal.OutOfMemory
             → IsLong session.new }
     {
-        session.book.reserve(1, 0, 0)?;
+        session.book.reserve(Room::ENTRY)?;
         let mut state = self.lock_and_drain(rt, session);
         state.tick(session, n)
     }
@@ -42,7 +43,7 @@ impl<N: PoolName, K: ListKeeper> SharedPool<N, K> {
         ensures memory { K.REFUSES ≡ false → result ≡ Err Refusal.OutOfMemory
             → IsLong session.new }
     {
-        session.book.reserve(1, 0, 0)?;
+        session.book.reserve(Room::ENTRY)?;
         let mut state = self.lock_and_drain(rt, session);
         state.purge(session)
     }
@@ -71,7 +72,7 @@ impl<N: PoolName, K: ListKeeper> SharedPool<N, K> {
         if pass.client() != session.client() {
             return Err(Refusal::UnknownPass);
         }
-        session.book.reserve(1, 0, 1)?;
+        session.book.reserve(Room::IMAGE)?;
         let mut state = self.lock_and_drain(rt, session);
         state.read(session, pass)
     }
@@ -100,7 +101,7 @@ impl<N: PoolName, K: ListKeeper> SharedPool<N, K> {
         if pass.client() != session.client() {
             return Err(Refusal::UnknownPass);
         }
-        session.book.reserve(1, 0, 1)?;
+        session.book.reserve(Room::IMAGE)?;
         let mut state = self.lock_and_drain(rt, session);
         state.read_into(session, pass, offset, into)
     }
@@ -131,7 +132,7 @@ impl<N: PoolName, K: ListKeeper> SharedPool<N, K> {
             return Err(Refusal::UnknownPass);
         }
         let spare = K::spare_bytes(self.alloc, bytes)?;
-        session.book.reserve(1, 0, 0)?;
+        session.book.reserve(Room::ENTRY)?;
         let mut state = self.lock_and_drain(rt, session);
         state.write(session, pass, offset, bytes, lsn, spare)
     }

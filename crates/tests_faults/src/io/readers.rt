@@ -1,7 +1,7 @@
 //! Traces that come in pieces, are cut at each byte, or fail at each call of their reader.
 use crate::io::rows::{AHEAD, rows_of_the_rule, sixteen_pages};
+use bp_scripts::Row;
 use bp_trace::{TraceFault, read_script};
-use bp_trail::Row;
 use std::io;
 use std::io::{ErrorKind, Read};
 use std::process::Abort;

@@ -3,9 +3,11 @@ ghost use Rattle.std.specs.Prelude.{◌≡◌};
 
 use crate::io::rows::{rows_of_the_rule, sixteen_pages};
 use crate::io::writers::Limited;
-use bp_core::{Core, Entry, Refused, Settings};
-use bp_device::{MemDevice, Port, drive_all};
+use bp_core::{Core, Entry, Settings};
+use bp_device::{MemDevice, Port};
 use bp_page::Geometry;
+use bp_replay::drive_all;
+use bp_scripts::Refused;
 use bp_trace::{ReportRun, report, report_rows};
 use std::io;
 use std::io::Write;

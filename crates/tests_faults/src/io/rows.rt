@@ -1,6 +1,6 @@
 //! A trace that shows the write-ahead rule, and its rows.
 use bp_page::{Bytes, Geometry, Lsn, PageNo};
-use bp_trail::{Row, Step};
+use bp_scripts::{Row, Step};
 use std::process::Abort;
 
 /// Page 1 is changed under log record 7, and is to be evicted before that record is durable.

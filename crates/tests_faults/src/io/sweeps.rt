@@ -1,9 +1,10 @@
 //! A sweep whose device fails. No run of the program can show this.
 use bp_core::Settings;
-use bp_device::{FusePort, MemDevice, Port};
+use bp_device::{MemDevice, Port};
 use bp_page::Geometry;
 use bp_sweep::{Totals, count_references};
 use std::process::Abort;
+use test_ports::FusePort;
 
 /// A reference whose read fails is counted as failed, and the next one reads the page.
 #[test]

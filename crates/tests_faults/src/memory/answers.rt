@@ -1,7 +1,8 @@
 //! Compares a trail with its rows: each row that is not refused has its answer in the trail, once and in order.
 use crate::memory::telling::all_went_back;
-use bp_core::{Call, Entry, Refused, Reply, Row, Step};
+use bp_core::{Call, Entry, Reply};
 use bp_page::PageNo;
+use bp_scripts::{Refused, Row, Step};
 use std::process::Abort;
 
 /// What the last entry of a row shows, where the row is not refused.

@@ -2,9 +2,11 @@
 ghost use Rattle.std.specs.Prelude.{◌≡◌};
 
 use crate::memory::answers::expect_counted;
-use bp_core::{Core, Refused, Row, Settings};
-use bp_device::{MemDevice, MemPort, drive_all};
+use bp_core::{Core, Settings};
+use bp_device::{MemDevice, MemPort};
 use bp_page::{Geometry, Refusal};
+use bp_replay::drive_all;
+use bp_scripts::{Refused, Row};
 use std::process::Abort;
 use std::sync::Wait;
 use test_support::judging::unlawful_in;

@@ -4,8 +4,7 @@ use Rattle.bp_core.specs.Unsaved.{AreSaved}
 use Rattle.bp_device.specs.FlushAll.{FlushesEach}
 use Rattle.bp_device.specs.FlushAll.FlushesEach.{none, page}
 use Rattle.bp_device.proofs.Saving.{flush-keeps, flush-parameters, saved-up, saved-more-pages}
-use Rattle.bp_device.proofs.Working.{none-yet}
-use Rattle.bp_device.proofs.RowsWork.{work-join}
+use Rattle.bp_device.proofs.Working.{none-yet, work-join}
 use Rattle.bp_device.proofs.flush_all.drive_flush_all.Goals as goal
 
 pub loop-page-init : goal.loop-page-init

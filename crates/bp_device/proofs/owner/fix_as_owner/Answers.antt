@@ -1,6 +1,6 @@
 -- The work is that of the fix.
 use Rattle.bp_device.proofs.Owning.{ticked-work, fix-known}
-use Rattle.bp_device.proofs.RowsWork.{work-join}
+use Rattle.bp_device.proofs.Working.{work-join}
 use Rattle.bp_device.proofs.owner.fix_as_owner.Goals as goal
 
 pub returns-clause-work : goal.returns-clause-work

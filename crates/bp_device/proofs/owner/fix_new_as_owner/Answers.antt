@@ -3,7 +3,7 @@ use Rattle.std.proofs.Common.{ap, subst}
 use Rattle.bp_core.specs.Work.{DoesWork}
 use Rattle.bp_core.specs.Work.{MadeBlank}
 use Rattle.bp_device.proofs.Owning.{ticked-work, ticked-parameters, fix-known}
-use Rattle.bp_device.proofs.RowsWork.{work-join}
+use Rattle.bp_device.proofs.Working.{work-join}
 use Rattle.bp_device.proofs.owner.fix_new_as_owner.Goals as goal
 
 pub returns-clause-work : goal.returns-clause-work

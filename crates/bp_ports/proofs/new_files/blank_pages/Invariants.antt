@@ -5,8 +5,8 @@ use Rattle.bp_ports.proofs.new_files.blank_pages.Given as goal
 
 abbrev pub invariant-loop-page : goal.invariant-loop-page
 invariant-loop-page g l = record {
-  device : g.P.Port.geometry_of l.port ≡ g.P.Port.geometry_of l.initial.port;
-  headed : g.P.Port.is_headed l.port ≡ g.P.Port.is_headed l.initial.port;
-  uncounted : g.P.Port.failures_of l.port ≡ g.P.Port.failures_of l.initial.port;
-  written : WritesBlank g.P.Port.write_gives l.page (g.P.Port.geometry_of l.initial.port).size l.initial.port l.port;
+  device : l.port.device ≡ l.initial.port.device;
+  headed : l.port.headed ≡ l.initial.port.headed;
+  uncounted : l.port.failures ≡ l.initial.port.failures;
+  written : WritesBlank g.S.Store.writes l.initial.port.headed l.initial.port.device.size l.page l.initial.port.store l.port.store;
 }

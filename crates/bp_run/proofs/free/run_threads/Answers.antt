@@ -2,7 +2,7 @@
 use Rattle.std.proofs.Common.{◌≡◌, ◌∙◌, ap, subst, ℕ, arith, refl}
 use Rattle.std.proofs.lemmas.List.{length-map}
 use Rattle.bp_core.specs.Outcomes.{IsFit}
-use Rattle.bp_workers.specs.Scripts.{lists}
+use Rattle.bp_replay.specs.Scripts.{lists}
 use Rattle.bp_core.specs.Agreement.{parameters_with}
 use Rattle.bp_run.specs.Scripts.{clients_of}
 use Rattle.bp_run.proofs.Splitting.{all_below}

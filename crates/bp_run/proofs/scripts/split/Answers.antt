@@ -1,7 +1,7 @@
 -- Row after row.
 use Rattle.std.proofs.Common.{arith, rules, subst}
 use Rattle.std.specs.Vec.Iter.{into_iter_items}
-use Rattle.bp_workers.specs.Scripts.{lists}
+use Rattle.bp_replay.specs.Scripts.{lists}
 use Rattle.bp_run.proofs.Splitting.{AreSplit, none_left, one_more_lent}
 use Rattle.bp_run.proofs.scripts.split.Goals as goal
 

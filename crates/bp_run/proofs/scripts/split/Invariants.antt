@@ -1,6 +1,6 @@
 -- The scripts so far, and the rows that are left.
 use Rattle.std.specs.Vec.Iter.{into_iter_items}
-use Rattle.bp_workers.specs.Scripts.{lists}
+use Rattle.bp_replay.specs.Scripts.{lists}
 use Rattle.bp_run.proofs.Splitting.{AreSplit}
 use Rattle.bp_run.proofs.scripts.split.Given as goal
 

@@ -3,6 +3,7 @@ use Rattle.std.proofs.Common.{◌≡◌, arith, refl, sym, ap, ◌∙◌, length
 use Rattle.std.proofs.lemmas.List.{length-map}
 use Rattle.std.specs.declared.vec.Vec.{Vec}
 use Rattle.std.proofs.lemmas.Result.{err_from_is_err_and}
+use Rattle.bp_trail.specs.Parameters.{Parameters}
 use Rattle.bp_session_log.specs.Rings.{ring_of}
 use Rattle.bp_shared.specs.Taking.{PoolRing}
 use Rattle.bp_shared.proofs.Working.{why-of}
@@ -16,7 +17,7 @@ returns-then-len-clients g c =
     let is = c.ring.view_is ∙ c.requires.ring in
     let rings = ap (λ (r : PoolRing). r.rings) is in
     let count : length g.N.PoolName.ring.rings ≡ length c.ring.inside.producers.items = ap length (sym rings) ∙ length-map c.ring.inside.producers.items ring_of in
-    record { sessions = tt; clients = λ not. refl; refused = λ same. absurd (c.if-len-clients.true (c.len.ensures ∙ sym (long c.ring.inside.producers) ∙ sym count ∙ same ∙ sym c.requires.clients)) }
+    record { sessions = tt; clients = λ not. refl; refused = λ same. absurd (c.if-len-clients.true (c.len.ensures ∙ sym (long c.ring.inside.producers) ∙ sym count ∙ same ∙ sym (c.clients-clients.ensures ∙ ap (λ (p : Parameters). p.clients) c.requires.parameters))) }
 
 pub new_clients-requires-clause-rings : goal.new_clients-requires-clause-rings
 new_clients-requires-clause-rings g c = ap (λ (r : PoolRing). r.rings) (c.ring.view_is ∙ c.requires.ring)
@@ -25,7 +26,7 @@ pub new_clients-requires-clause-unused : goal.new_clients-requires-clause-unused
 new_clients-requires-clause-unused g c = c.ring.invariant.6.unused
 
 pub new_clients-requires-clause-count : goal.new_clients-requires-clause-count
-new_clients-requires-clause-count g c = long c.ring.inside.producers ∙ sym c.len.ensures ∙ c.if-len-clients.false
+new_clients-requires-clause-count g c = long c.ring.inside.producers ∙ sym c.len.ensures ∙ c.if-len-clients.false ∙ c.clients-clients.ensures ∙ ap (λ (p : Parameters). p.clients) c.requires.parameters
 
 pub new_clients-requires-clause-board : goal.new_clients-requires-clause-board
 new_clients-requires-clause-board g c = ap (λ (r : PoolRing). r.board) (c.ring.view_is ∙ c.requires.ring)
@@ -41,7 +42,7 @@ returns-in_err-sessions g c =
     let is = c.ring.view_is ∙ c.requires.ring in
     let rings = ap (λ (r : PoolRing). r.rings) is in
     let count : length g.N.PoolName.ring.rings ≡ length c.ring.inside.producers.items = ap length (sym rings) ∙ length-map c.ring.inside.producers.items ring_of in
-    let all : length g.N.PoolName.ring.rings ≡ g.N.PoolName.parameters.clients = count ∙ long c.ring.inside.producers ∙ sym c.len.ensures ∙ c.if-len-clients.false ∙ c.requires.clients in
+    let all : length g.N.PoolName.ring.rings ≡ g.N.PoolName.parameters.clients = count ∙ long c.ring.inside.producers ∙ sym c.len.ensures ∙ c.if-len-clients.false ∙ (c.clients-clients.ensures ∙ ap (λ (p : Parameters). p.clients) c.requires.parameters) in
     let why = err_from_is_err_and c.from_residual.result c.from_residual.ensures.1 in
     rw (why.1 ∙ ap Err (why.2 ∙ ap why-of c.in_err-sessions.ensures.refused)) (record { sessions = tt; clients = λ not. absurd (not all); refused = λ same. refl })
 
@@ -50,7 +51,7 @@ invariant_of-result g c =
     let is = c.ring.view_is ∙ c.requires.ring in
     let rings = ap (λ (r : PoolRing). r.rings) is in
     let count : length g.N.PoolName.ring.rings ≡ length c.ring.inside.producers.items = ap length (sym rings) ∙ length-map c.ring.inside.producers.items ring_of in
-    let all : length g.N.PoolName.ring.rings ≡ g.N.PoolName.parameters.clients = count ∙ long c.ring.inside.producers ∙ sym c.len.ensures ∙ c.if-len-clients.false ∙ c.requires.clients in
+    let all : length g.N.PoolName.ring.rings ≡ g.N.PoolName.parameters.clients = count ∙ long c.ring.inside.producers ∙ sym c.len.ensures ∙ c.if-len-clients.false ∙ (c.clients-clients.ensures ∙ ap (λ (p : Parameters). p.clients) c.requires.parameters) in
     let made = c.in_ok-sessions.ensures in
     record {
       rings = c.ring.invariant.6.same ∙ rings;
@@ -60,7 +61,7 @@ invariant_of-result g c =
       unused = (c.ring.invariant.1, c.ring.invariant.2);
       taker = (c.ring.invariant.0 ∙ ap (λ (r : PoolRing). r.trail) is, c.ring.invariant.3);
       board_is = (made.board, made.blank);
-      seen_is = (made.seen, made.unseen);
+      seen_is = (made.seen, made.shown);
     }
 
 pub returns : goal.returns
@@ -68,5 +69,5 @@ returns g c =
     let is = c.ring.view_is ∙ c.requires.ring in
     let rings = ap (λ (r : PoolRing). r.rings) is in
     let count : length g.N.PoolName.ring.rings ≡ length c.ring.inside.producers.items = ap length (sym rings) ∙ length-map c.ring.inside.producers.items ring_of in
-    let all : length g.N.PoolName.ring.rings ≡ g.N.PoolName.parameters.clients = count ∙ long c.ring.inside.producers ∙ sym c.len.ensures ∙ c.if-len-clients.false ∙ c.requires.clients in
+    let all : length g.N.PoolName.ring.rings ≡ g.N.PoolName.parameters.clients = count ∙ long c.ring.inside.producers ∙ sym c.len.ensures ∙ c.if-len-clients.false ∙ (c.clients-clients.ensures ∙ ap (λ (p : Parameters). p.clients) c.requires.parameters) in
     record { sessions = c.in_ok-sessions.ensures.sessions; clients = λ not. absurd (not all); refused = λ same. tt }

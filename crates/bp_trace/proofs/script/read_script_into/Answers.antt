@@ -3,7 +3,7 @@ use Rattle.std.proofs.Common.{List, Result, Ok, Err, IfOk, Vec}
 use Rattle.std.specs.declared.alloc.Global.{Global}
 use Rattle.csv.specs.Reading.{default_config, records, strip_bom}
 use Rattle.bp_page.specs.declared.limits.Geometry.{Geometry}
-use Rattle.bp_trail.specs.declared.scripts.Row.{Row}
+use Rattle.bp_scripts.specs.declared.rows.Row.{Row}
 use Rattle.bp_trace.specs.declared.faults.TraceFault.{TraceFault}
 use Rattle.bp_trace.specs.Script.{Answers, IsScriptOfSome, script_from}
 use Rattle.bp_trace.specs.InRange.{IsScript}

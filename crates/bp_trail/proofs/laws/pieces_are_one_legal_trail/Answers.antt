@@ -5,4 +5,4 @@ pub returns-clause-joined : goal.returns-clause-joined
 returns-clause-joined c = pieces-joined
 
 pub returns-clause-reads : goal.returns-clause-reads
-returns-clause-reads c = λ q opening trail legal h p m known images due honest. reads-since q m known h trail (legal h p) images due honest
+returns-clause-reads c = λ q opening trail legal h leads m known p images due honest. reads-since q m known p h trail (legal h leads) images due honest

@@ -6,8 +6,7 @@ use Rattle.bp_shared.proofs.Acting.{idle, all_more, acts_more, may_act, may_more
 use Rattle.bp_shared.proofs.Working.{none-yet}
 use Rattle.bp_workers.proofs.Raising.{raises-none, raises-then}
 use Rattle.bp_workers.proofs.Trying.{leads-none, leads-more, leads-fixed, leads-given_up, leads-end, gives-up-acts}
-use Rattle.bp_shared.proofs.Working.{work-on}
-use Rattle.bp_workers.proofs.Working.{goes-on-work, gives-up-work}
+use Rattle.bp_workers.proofs.Working.{goes-on-work, gives-up-work, shown-work, tried-work}
 use Rattle.bp_workers.proofs.durable.fix_durably.Goals as goal
 
 pub loop-round-init : goal.loop-round-init
@@ -27,7 +26,10 @@ loop-round-preserved g c =
       lent = c.overcome.ensures.lent ∙ i.lent;
       raises = raises-then _ _ _ _ _ _ i.raises c.overcome.ensures.raises;
       leads = leads-more _ _ _ _ _ _ _ _ _ _ _ _ _ _ _ c.in-Err.why i.leads c.overcome.ensures.raises.rises said goes;
-      work = goes-on-work _ _ _ _ _ _ _ _ _ _ _ _ _ (work-on _ _ _ _ _ _ _ _ i.work c.in-Err.ensures.work) goes;
+      work = goes-on-work _ _ _ _ _ _ _ _ _ _ _ _ _
+          (shown-work _ _ _ _ c.args.client.now.session c.ask_fix.new.session c.overcome.new.session _ _ _ _ c.overcome.ensures.acts
+          (tried-work _ _ _ _ c.args.client.now.session c.loop-round.client.session c.ask_fix.new.session _ _ _ i.client i.acts (may_act _ _ _ _ _ c.ask_fix.ensures.keeps.acts) i.work c.in-Err.ensures.work))
+          goes;
     }
 
 pub returns-in-Ok : goal.returns-in-Ok
@@ -40,7 +42,7 @@ returns-in-Ok g c =
       lent = i.lent;
       raises = i.raises;
       outcome = leads-fixed _ _ _ _ _ _ _ _ _ _ _ _ _ _ i.leads (omega (arith, c.loop-round-test.true)) (rw i.client at c.in-Ok.ensures.gives);
-      work = work-on _ _ _ _ _ _ _ _ i.work c.in-Ok.ensures.work;
+      work = tried-work _ _ _ _ c.args.client.now.session c.loop-round.client.session c.ask_fix.new.session _ _ _ i.client i.acts (may_act _ _ _ _ _ c.ask_fix.ensures.keeps.acts) i.work c.in-Ok.ensures.work;
     }
 
 pub returns-in_err-overcome-in-Err : goal.returns-in_err-overcome-in-Err
@@ -66,7 +68,10 @@ returns-in_err-overcome-in-Err g c =
       raises = raises-then _ _ _ _ _ _ i.raises c.overcome.ensures.raises;
       outcome = rw (is.1 ∙ ap Err is.2)
           (leads-given_up _ _ _ _ _ _ _ _ _ _ _ _ _ _ _ _ _ i.leads c.loop-round-test.true c.overcome.ensures.raises.rises (rw i.client at c.in-Err.ensures.gives) ends);
-      work = gives-up-work _ _ g.A.Asked.ticks client steps _ _ _ _ _ _ _ _ _ (work-on _ _ _ _ _ _ _ _ i.work c.in-Err.ensures.work) ends;
+      work = gives-up-work _ _ g.A.Asked.ticks client steps _ _ _ _ _ _ _ _ _
+          (shown-work _ _ _ _ c.args.client.now.session c.ask_fix.new.session c.overcome.new.session _ _ _ _ c.overcome.ensures.acts
+          (tried-work _ _ _ _ c.args.client.now.session c.loop-round.client.session c.ask_fix.new.session _ _ _ i.client i.acts (may_act _ _ _ _ _ c.ask_fix.ensures.keeps.acts) i.work c.in-Err.ensures.work))
+          ends;
     }
 
 pub returns : goal.returns
@@ -79,5 +84,5 @@ returns g c =
       lent = i.lent;
       raises = i.raises;
       outcome = leads-end _ _ _ _ _ _ _ _ _ _ _ _ _ _ i.leads (omega (arith, c.loop-round.auto._round-end, c.loop-round-test.false)) (rw i.client at c.ask_fix-2.ensures.gives);
-      work = work-on _ _ _ _ _ _ _ _ i.work c.ask_fix-2.ensures.work;
+      work = tried-work _ _ _ _ c.args.client.now.session c.loop-round.client.session c.ask_fix-2.new.session _ _ _ i.client i.acts (may_act _ _ _ _ _ c.ask_fix-2.ensures.keeps.acts) i.work c.ask_fix-2.ensures.work;
     }

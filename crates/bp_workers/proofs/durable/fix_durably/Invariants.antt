@@ -2,6 +2,7 @@
 use Rattle.std.proofs.Common.{◌≡◌}
 use Rattle.bp_shared.specs.Keeping.{MayAct}
 use Rattle.bp_shared.specs.Sessions.{DoesWorkSaid, IsRoomy}
+use Rattle.bp_shared.specs.Writing.{WithLsnSeen}
 use Rattle.bp_workers.specs.Logs.{RaisesWithin}
 use Rattle.bp_workers.proofs.Trying.{LeadsTo}
 use Rattle.bp_workers.proofs.durable.fix_durably.Given as goal
@@ -19,5 +20,5 @@ invariant-loop-round g l =
       lent : g.L.DurableLog.lent l.log ≡ g.L.DurableLog.lent l.initial.log;
       raises : RaisesWithin (durable l.initial.log) (raised l.initial.log) (durable l.log) (raised l.log);
       leads : LeadsTo g.A.Asked.fixes g.A.Asked.ticks l.initial.client.session.client l.page l.patience.ticks l.patience.rounds (raised l.log) l.is_ticked l._round l.initial.client.session.said l.client.session.said;
-      work : DoesWorkSaid g.P.Port.read_gives g.P.Port.write_gives l.initial.client.session.said l.client.session.said l.initial.client.port l.client.port;
+      work : DoesWorkSaid g.P.Port.read_gives (WithLsnSeen l.initial.client.session l.client.session g.P.Port.write_gives) l.initial.client.session.said l.client.session.said l.initial.client.port l.client.port;
     }

@@ -1,7 +1,7 @@
 -- The port that is pushed is to the device, as all before it are.
 use Rattle.std.proofs.Common.{◌≡◌, sym, subst, All, [], ◌∷◌}
 use Rattle.std.proofs.lemmas.List.Elements.{All-append, All-cons, All-nil}
-use Rattle.bp_device.specs.declared.FusePort.{FusePort}
+use Rattle.test_ports.specs.declared.fuse.FusePort.{FusePort}
 use Rattle.bp_device.specs.declared.MemPort.{MemPort}
 use Rattle.scenario_sessions.proofs.runs.fuses.Goals as goal
 

@@ -2,7 +2,7 @@
 use Rattle.std.proofs.Common.{subst, sym}
 use Rattle.bp_core.specs.Work.{DoesWork}
 use Rattle.bp_device.proofs.Owning.{back-work}
-use Rattle.bp_device.proofs.RowsWork.{work-join}
+use Rattle.bp_device.proofs.Working.{work-join}
 use Rattle.bp_device.proofs.owned_pool.OwnedPool.with_page.Goals as goal
 
 pub returns-clause-work : goal.returns-clause-work

@@ -1,7 +1,8 @@
 -- Nothing was told yet.
-use Rattle.std.proofs.Common.{ap, Err}
+use Rattle.std.proofs.Common.{ap, subst, sym, Err}
 use Rattle.bp_shared.proofs.Working.{why-of}
-use Rattle.bp_shared.proofs.Telling.{earlier_none, shown_none}
+use Rattle.bp_shared.specs.Telling.{AreEarlier}
+use Rattle.bp_shared.proofs.Telling.{earlier_shown, shown_none}
 use Rattle.bp_shared.proofs.pool.SharedPool.new.Goals as goal
 
 pub new-state-requires-clause-reader : goal.new-state-requires-clause-reader
@@ -26,7 +27,7 @@ pub new-state-requires-clause-shown : goal.new-state-requires-clause-shown
 new-state-requires-clause-shown g c = shown_none _ _ _ _ c.in-Ok.opened.board_is.0 c.in-Ok.opened.board_is.1 c.requires.past
 
 pub new-state-requires-clause-earlier : goal.new-state-requires-clause-earlier
-new-state-requires-clause-earlier g c = earlier_none _ _ _ c.in-Ok.opened.seen_is.0 c.in-Ok.opened.seen_is.1
+new-state-requires-clause-earlier g c = subst (AreEarlier _ _) (sym c.requires.past) (earlier_shown _ _ _ c.in-Ok.opened.seen_is.0 c.in-Ok.opened.seen_is.1)
 
 pub new-state-requires-clause-rings : goal.new-state-requires-clause-rings
 new-state-requires-clause-rings g c = c.in-Ok.opened.rings

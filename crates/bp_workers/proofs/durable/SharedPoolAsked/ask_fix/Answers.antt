@@ -1,10 +1,9 @@
--- The pool's own fix tells the page LSN of each write too, and leaves a session that is given a pass roomy.
+-- The pool's own fix leaves a session that is given a pass roomy.
 use Rattle.std.proofs.Common.{◌≢◌, OnOk, Result, Ok, Err}
 use Rattle.bp_page.specs.declared.refusals.Refusal.{Refusal}
 use Rattle.bp_page.specs.declared.refusals.Refusal.TheVariants as refusal
 use Rattle.bp_core.specs.declared.passes.Pass.{Pass}
 use Rattle.bp_shared.specs.Sessions.{SessionValue, IsRoomy}
-use Rattle.bp_shared.proofs.Writing.{work_of_some}
 use Rattle.bp_workers.proofs.durable.SharedPoolAsked.ask_fix.Goals as goal
 
 roomy_fixed : (answer : Result Pass Refusal) (session : SessionValue) → (answer ≢ Err refusal.OutOfMemory → IsRoomy session) → OnOk answer (IsRoomy session)
@@ -13,6 +12,3 @@ roomy_fixed (Err why) session has = tt
 
 pub returns-clause-roomy : goal.returns-clause-roomy
 returns-clause-roomy g c = roomy_fixed _ c.fix.new.session c.fix.ensures.roomy
-
-pub returns-clause-work : goal.returns-clause-work
-returns-clause-work g c = work_of_some _ _ c.args.session.now c.fix.new.session _ _ _ _ c.fix.ensures.work

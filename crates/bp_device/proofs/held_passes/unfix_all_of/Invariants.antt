@@ -1,6 +1,0 @@
-use Rattle.bp_device.specs.Rows.{GoingBack}
-use Rattle.bp_device.proofs.ClientPasses.{left_from}
-use Rattle.bp_device.proofs.held_passes.unfix_all_of.Given as goal
-
-abbrev pub invariant-loop-note : goal.invariant-loop-note
-invariant-loop-note g l = GoingBack l.initial.core l.held (left_from l.client l.held l.note-index) l.core

@@ -1,5 +1,0 @@
-use Rattle.bp_trail.proofs.InPieces.{in_piece}
-use Rattle.bp_trail.proofs.laws.entry_is_in_the_piece_of_its_row.Goals as goal
-
-pub returns : goal.returns
-returns c = in_piece

@@ -1,5 +1,0 @@
-use Rattle.bp_trail.proofs.InPieces.{bounded_by_its_row}
-use Rattle.bp_trail.proofs.laws.marks_are_bounded_row_by_row.Goals as goal
-
-pub returns : goal.returns
-returns c = bounded_by_its_row

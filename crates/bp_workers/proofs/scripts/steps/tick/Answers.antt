@@ -1,6 +1,0 @@
--- One entry, or none.
-use Rattle.bp_workers.proofs.Stepping.{tick_said}
-use Rattle.bp_workers.proofs.scripts.steps.tick.Goals as goal
-
-pub returns-clause-outcome : goal.returns-clause-outcome
-returns-clause-outcome g c = tick_said _ _ _ _ _ c.tick.ensures.outcome

@@ -1,0 +1,2 @@
+-- What a port that fails once leaves.
+pub mod Fuses
