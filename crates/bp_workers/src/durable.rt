@@ -1,5 +1,5 @@
 //! `fix_durably`: a fix that has the log made durable, or waits for a victim, and is tried again.
-ghost use Rattle.std.specs.Prelude.{◌≡◌, ◌<◌, false, OnOk, IfErr};
+ghost use Rattle.std.specs.Prelude.{◌≡◌, ◌≢◌, ◌<◌, false, OnOk, IfErr};
 ghost use Rattle.bp_page.specs.declared.refusals.Refusal.TheVariants as Refusal;
 ghost use Rattle.bp_shared.specs.Keeping.{KeepsSession, MayAct};
 ghost use Rattle.bp_shared.specs.Sessions.{DoesWorkSaid, IsRoomy};
@@ -211,6 +211,8 @@ fn overcome<N: PoolName, K: ListKeeper, A: Asked<N, K>, L: DurableLog<N>, R: Wai
         (L.durable_to log.new) (L.raised_to log.new) }
     ensures goes_on { OnOk result (GoesOn session.old.client patience.ticks
         (L.raised_to log.new) why is_ticked.old is_ticked.new session.old.said session.new.said) }
+    ensures known { IfErr result (λ last. last ≡ Refusal.UnknownTicket
+        → why ≡ Refusal.UnknownTicket) }
     ensures gives_up { IfErr result (λ last. GivesUp A.ticks session.old.client patience.ticks
         (L.durable_to log.new) why is_ticked.old last session.old.said session.new.said) }
 {
@@ -247,7 +249,8 @@ fn overcome<N: PoolName, K: ListKeeper, A: Asked<N, K>, L: DurableLog<N>, R: Wai
 /// Any other refusal is answered at once, as the fix gave it. `NoVictim` is answered only where the rounds are over,
 /// and `NeedLog` only there or where the log did not get durable so far. Where the tick is refused its refusal is
 /// answered, `TrailFull`, `ClockFull` or `OutOfMemory`: then the clock stands, and no page may leave. So each of these
-/// three is answered only as the pool's last call did. A session that was given a pass is roomy.
+/// three is answered only as the pool's last call did. `UnknownTicket` never is. A session that was given a pass is
+/// roomy.
 pub fn fix_durably<N: PoolName, P: Port, K: ListKeeper, A: Asked<N, K>, L: DurableLog<N>, R: Wait>(
     rt: &R,
     pool: &A,
@@ -261,6 +264,7 @@ pub fn fix_durably<N: PoolName, P: Port, K: ListKeeper, A: Asked<N, K>, L: Durab
         client.old.session client.new.session }
     ensures port { P.geometry_of client.new.port ≡ P.geometry_of client.old.port }
     ensures roomy { OnOk result (IsRoomy client.new.session) }
+    ensures known { result ≢ Err Refusal.UnknownTicket }
     ensures lent { L.lent log.new ≡ L.lent log.old }
     ensures raises { RaisesWithin (L.durable_to log.old) (L.raised_to log.old)
         (L.durable_to log.new) (L.raised_to log.new) }

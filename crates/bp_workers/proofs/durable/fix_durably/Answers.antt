@@ -3,7 +3,7 @@ use Rattle.std.proofs.Common.{arith, refl, ap, ◌∙◌, Err}
 use Rattle.std.proofs.lemmas.Result.{err_from_is_err_and}
 use Rattle.bp_core.specs.declared.passes.Pass.{Pass}
 use Rattle.bp_shared.proofs.Acting.{idle, all_more, acts_more, may_act, may_more}
-use Rattle.bp_shared.proofs.Working.{none-yet}
+use Rattle.bp_shared.proofs.Working.{none-yet, why-of}
 use Rattle.bp_workers.proofs.Raising.{raises-none, raises-then}
 use Rattle.bp_workers.proofs.Trying.{leads-none, leads-more, leads-fixed, leads-given_up, leads-end, gives-up-acts}
 use Rattle.bp_workers.proofs.Working.{goes-on-work, gives-up-work, shown-work, tried-work}
@@ -38,6 +38,7 @@ returns-in-Ok g c =
     record {
       keeps = record { client = c.ask_fix.ensures.keeps.client ∙ i.client; before = c.ask_fix.ensures.keeps.before ∙ i.before; acts = all_more _ _ _ _ _ i.acts c.in-Ok.ensures.keeps.acts; roomy = λ was. c.ask_fix.ensures.keeps.roomy (i.roomy was) };
       roomy = c.in-Ok.ensures.roomy;
+      known = c.in-Ok.ensures.known;
       port = c.ask_fix.ensures.port ∙ i.port;
       lent = i.lent;
       raises = i.raises;
@@ -63,6 +64,7 @@ returns-in_err-overcome-in-Err g c =
         roomy = λ was. c.overcome.ensures.roomy (c.ask_fix.ensures.keeps.roomy (i.roomy was));
       };
       roomy = rw (is.1 ∙ ap Err is.2) tt;
+      known = rw (is.1 ∙ ap Err is.2) (λ unknown. c.in-Err.ensures.known (ap Err (c.in_err-overcome-in-Err.ensures.known (ap why-of unknown))));
       port = c.ask_fix.ensures.port ∙ i.port;
       lent = c.overcome.ensures.lent ∙ i.lent;
       raises = raises-then _ _ _ _ _ _ i.raises c.overcome.ensures.raises;
@@ -80,6 +82,7 @@ returns g c =
     record {
       keeps = record { client = c.ask_fix-2.ensures.keeps.client ∙ i.client; before = c.ask_fix-2.ensures.keeps.before ∙ i.before; acts = acts_more _ _ _ _ _ _ i.acts c.ask_fix-2.ensures.keeps.acts; roomy = λ was. c.ask_fix-2.ensures.keeps.roomy (i.roomy was) };
       roomy = c.ask_fix-2.ensures.roomy;
+      known = c.ask_fix-2.ensures.known;
       port = c.ask_fix-2.ensures.port ∙ i.port;
       lent = i.lent;
       raises = i.raises;

@@ -24,5 +24,6 @@ returns-in_default g c =
       lent = refl;
       raises = raises-none _ _;
       goes_on = tt;
+      known = λ unknown. unknown;
       gives_up = gives_up_other g.A.Asked.ticks session.client c.args.patience.ticks (g.L.DurableLog.durable_to c.args.log.now) c.args.why c.args.is_ticked.now session.said c.in_default.not-NeedLog c.in_default.not-NoVictim;
     }
