@@ -1,17 +1,18 @@
 //! `Job`: one worker's thread.
 
+use crate::sharing::{SharedState, SharingWorker, WithReceipt};
 use crate::unfixing::unfix_all;
-use crate::worker::{Client, Left, Upkeep, Worker};
+use crate::worker::{Client, Left, Upkeep};
 use bp_keeper::ListKeeper;
 use bp_ports::Port;
 use bp_shared::{ClosedPool, PoolName, SharedPool};
 use std::marker::Model;
-use std::sync::Wait;
+use std::sync::{Mutex, Wait};
 
 /// A worker with its client and its upkeep, and after its run the number of passes that it held, and whether all went
 /// back.
 #[derive(Drop)]
-pub(crate) struct Job<N: PoolName, P: Port, K: ListKeeper, W: Worker<P, K>> {
+pub(crate) struct Job<N: PoolName, P: Port, K: ListKeeper, W: Drop> {
     worker: W,
     client: Client<N, P, K>,
     upkeep: Option<Upkeep<N>>,
@@ -19,7 +20,7 @@ pub(crate) struct Job<N: PoolName, P: Port, K: ListKeeper, W: Worker<P, K>> {
     all_went_back: bool,
 }
 
-impl<N: PoolName, P: Port, K: ListKeeper, W: Worker<P, K>> Model for Job<N, P, K, W> {
+impl<N: PoolName, P: Port, K: ListKeeper, W: Drop> Model for Job<N, P, K, W> {
     ghost use Rattle.bp_workers.specs.Workers.{held_upkeep};
     ghost use Rattle.bp_workers.specs.Jobs.{JobValue};
 
@@ -35,7 +36,7 @@ impl<N: PoolName, P: Port, K: ListKeeper, W: Worker<P, K>> Model for Job<N, P, K
     } };
 }
 
-impl<N: PoolName, P: Port, K: ListKeeper, W: Worker<P, K>> Job<N, P, K, W> {
+impl<N: PoolName, P: Port, K: ListKeeper, W: Drop> Job<N, P, K, W> {
     ghost use Rattle.std.specs.Prelude.{◌≡◌, []};
     ghost use Rattle.bp_shared.specs.Posting.{TakesBack};
     ghost use Rattle.bp_workers.specs.Workers.{held_upkeep};
@@ -61,14 +62,21 @@ impl<N: PoolName, P: Port, K: ListKeeper, W: Worker<P, K>> Job<N, P, K, W> {
     }
 
     /// Lets the worker do its work, and then gives back the passes that it still holds.
-    pub(crate) fn run<R: Wait>(&mut self, rt: &R, pool: &SharedPool<N, K>)
+    pub(crate) fn run<S: SharedState, R: Wait>(
+        &mut self,
+        rt: &R,
+        pool: &SharedPool<N, K>,
+        shared: &Mutex<WithReceipt<N, S>>,
+    )
+    where
+        W: SharingWorker<P, K, S>,
         requires empty { N.past ≡ [] }
         requires ready { IsReady self.old }
         ensures ran { Ran W.leaves self.old self.new }
     {
         match &mut self.upkeep {
-            Some(upkeep) => self.worker.lead(rt, pool, &mut self.client, upkeep),
-            None => self.worker.work(rt, pool, &mut self.client),
+            Some(upkeep) => self.worker.lead(rt, pool, &mut self.client, upkeep, shared),
+            None => self.worker.work(rt, pool, &mut self.client, shared),
         }
         self.held = self.client.session.held_count();
         self.all_went_back = unfix_all(rt, pool, &mut self.client.session);

@@ -3,6 +3,7 @@ ghost use Rattle.std.specs.Prelude.{◌≡◌, ◌<◌, ◌≤◌, ◌↔◌, �
 ghost use Rattle.std.specs.Prelude.{All, zip, vec_len, vec_capacity, slice_index_or};
 ghost use Rattle.bp_page.specs.declared.refusals.Refusal.TheVariants as Refusal;
 ghost use Rattle.bp_trail.specs.Legal.{Legal};
+ghost use Rattle.bp_trail.specs.Trail.{Trail};
 ghost use Rattle.bp_core.specs.Agreement.{parameters_with};
 ghost use Rattle.bp_shared.specs.Sessions.{new_sessions};
 ghost use Rattle.bp_workers.specs.Workers.{upkeep_value, unused_upkeep};
@@ -12,6 +13,7 @@ ghost use Rattle.bp_workers.specs.Runs.{FitTogether, CanRun, CanRunUpTo, RunAnsw
 
 use crate::job::Job;
 use crate::kinds::Kind;
+use crate::sharing::{SharedState, SharingWorker, WithReceipt};
 use crate::worker::{Client, Left, Upkeep, Worker};
 use bp_core::config::MAX_CLIENTS;
 use bp_core::{Config, PoolCore};
@@ -21,7 +23,7 @@ use bp_ports::Port;
 use bp_shared::{ClosedPool, LogWriter, Parts, PoolName, Session, SharedPool};
 use std::alloc::Global;
 use std::marker::{Brand, Send, Sync};
-use std::sync::Wait;
+use std::sync::{Mutex, Wait};
 use std::thread;
 use std::thread::Threads;
 
@@ -35,7 +37,7 @@ pub struct Run<P: Port, W: Drop, K: ListKeeper = RecordingKeeper> {
 }
 
 /// Makes a job for each session, with the port and the worker of the same number. The first has the upkeep.
-fn make_jobs<N: PoolName, P: Port, K: ListKeeper, W: Worker<P, K>>(
+fn make_jobs<N: PoolName, P: Port, K: ListKeeper, W: Drop>(
     alloc: Global,
     sessions: Vec<Session<N, K>>,
     ports: Vec<P>,
@@ -77,9 +79,10 @@ fn run_jobs<
     N: PoolName + Send + Sync,
     P: Port + Send,
     K: Kind,
-    W: Worker<P, K> + Send,
+    S: SharedState + Send,
+    W: SharingWorker<P, K, S> + Send,
     R: Threads + Wait + Sync,
->(rt: &R, pool: &SharedPool<N, K>, jobs: &mut [Job<N, P, K, W>])
+>(rt: &R, pool: &SharedPool<N, K>, shared: &Mutex<WithReceipt<N, S>>, jobs: &mut [Job<N, P, K, W>])
     requires empty { N.past ≡ [] }
     requires some { 0 < length jobs.old }
     requires ready { All IsReady jobs.old }
@@ -88,13 +91,13 @@ fn run_jobs<
         → Ran W.leaves (slice_index_or jobs.old k d) (slice_index_or jobs.new k d) }
 {
     let count = jobs.len();
-    thread::for_each_mut(rt, jobs, count, &|_, job| job.run(rt, pool));
+    thread::for_each_mut(rt, jobs, count, &|_, job| job.run(rt, pool, shared));
 }
 
 /// Ends the jobs' sessions at the pool. Returns the upkeep that the first had, and what the jobs left. Each session is
 /// of another client, so that the end of one leaves what the others gave back. There is room for all, so that no memory
 /// is taken.
-fn all_left<N: PoolName, P: Port, K: ListKeeper, W: Worker<P, K>>(
+fn all_left<N: PoolName, P: Port, K: ListKeeper, W: Drop>(
     pool: &mut ClosedPool<N, K>,
     jobs: Vec<Job<N, P, K, W>>,
     left: Vec<Left<P, W, K>>,
@@ -129,38 +132,46 @@ fn run_pool<
     N: PoolName + Send + Sync,
     P: Port + Send,
     K: Kind,
-    W: Worker<P, K> + Send,
+    S: SharedState + Send,
+    W: SharingWorker<P, K, S> + Send,
     R: Threads + Wait + Sync,
 >(
     rt: &R,
     alloc: Global,
     pool: SharedPool<N, K>,
     jobs: Vec<Job<N, P, K, W>>,
-) -> Result<Run<P, W, K>, Refusal>
+    state: S,
+) -> Result<(Run<P, W, K>, S), Refusal>
     requires some { 0 < vec_len jobs }
     requires ready { All IsReady jobs.items }
     requires numbered { AreNumbered 0 jobs.items }
     requires upkeep { IsSome (first_upkeep jobs.items) }
     requires new { N.past ≡ [] }
-    ensures parameters { IfOk result (λ run. run.core.parameters ≡ N.parameters) }
-    ensures left { (given : _) → SideBySide IsNewJob 0 given jobs.items → IfOk result (λ run.
-        SideBySide (LeftBy run.core P.geometry_of W.leaves) 0 given run.left.items) }
+    requires agrees { S.agrees state [] }
+    ensures parameters { IfOk result (λ ran. ran.0.core.parameters ≡ N.parameters) }
+    ensures left { (given : _) → SideBySide IsNewJob 0 given jobs.items → IfOk result (λ ran.
+        SideBySide (LeftBy ran.0.core P.geometry_of W.leaves) 0 given ran.0.left.items) }
+    ensures agrees { IfOk result (λ ran. (seen : Trail) × S.agrees ran.1 seen) }
     ensures refused { OnErr result (result ≡ Err Refusal.OutOfMemory) }
 {
     let Ok(left) = Vec::with_capacity(alloc, jobs.len()) else {
         drop(pool);
         drop(jobs);
+        drop(state);
         return Err(Refusal::OutOfMemory);
     };
     let mut jobs = jobs;
-    run_jobs(rt, &pool, jobs.as_mut_slice());
+    let receipt = pool.receipt(rt);
+    let shared = Mutex::new(WithReceipt { state, receipt });
+    run_jobs(rt, &pool, &shared, jobs.as_mut_slice());
+    let WithReceipt { state, receipt: _ } = shared.into_inner();
     let mut pool = pool.close();
     let (upkeep, left) = all_left(&mut pool, jobs, left);
     let Upkeep { log, taker } = upkeep;
     let (core, mark, reader) = pool.into_core(taker);
     // The mark's last word bounds what its reader has seen, and so the LSNs that the core has marked.
     mark.close(log.into_log_end(), reader);
-    Ok(Run { core, left })
+    Ok((Run { core, left }, state))
 }
 
 /// Runs the workers of a pool whose parts agree on N.
@@ -168,7 +179,8 @@ fn run_named<
     N: PoolName + Send + Sync,
     P: Port + Send,
     K: Kind,
-    W: Worker<P, K> + Send,
+    S: SharedState + Send,
+    W: SharingWorker<P, K, S> + Send,
     R: Threads + Wait + Sync,
 >(
     rt: &R,
@@ -177,7 +189,8 @@ fn run_named<
     parts: Parts,
     ports: Vec<P>,
     workers: Vec<W>,
-) -> Result<Run<P, W, K>, Refusal>
+    state: S,
+) -> Result<(Run<P, W, K>, S), Refusal>
     requires mark { parts.mark ≡ N.mark }
     requires raised { parts.end.frontier ≡ 0 }
     requires parameters { core.parameters ≡ N.parameters }
@@ -189,10 +202,12 @@ fn run_named<
     requires some { 0 < vec_len workers }
     requires ports { vec_len ports ≡ vec_len workers }
     requires of_pool { All (λ p. IsOfPool N.parameters (P.geometry_of p)) ports.items }
-    ensures parameters { IfOk result (λ run. run.core.parameters ≡ N.parameters) }
-    ensures left { IfOk result (λ run.
-        SideBySide (LeftBy run.core P.geometry_of W.leaves) 0
-        (zip workers.items ports.items) run.left.items) }
+    requires agrees { S.agrees state [] }
+    ensures parameters { IfOk result (λ ran. ran.0.core.parameters ≡ N.parameters) }
+    ensures left { IfOk result (λ ran.
+        SideBySide (LeftBy ran.0.core P.geometry_of W.leaves) 0
+        (zip workers.items ports.items) ran.0.left.items) }
+    ensures agrees { IfOk result (λ ran. (seen : Trail) × S.agrees ran.1 seen) }
     ensures refused { OnErr result (result ≡ Err Refusal.OutOfMemory) }
 {
     let Parts {
@@ -213,7 +228,7 @@ fn run_named<
             return Err(refusal);
         }
     };
-    run_pool(rt, alloc, pool, jobs)
+    run_pool(rt, alloc, pool, jobs, state)
 }
 
 fn is_same(one: &Geometry, other: &Geometry) -> bool
@@ -246,30 +261,41 @@ fn fit_together<P: Port>(config: &Config, ports: &[P], workers: usize) -> bool
 
 /// Runs workers over one pool, each in a thread of its own with a session and a port: `workers[c]` is client c and has
 /// `ports[c]`. The worker of client 0 has the log writer and the taker of the trail too. It waits until all have
-/// returned, and gives back the passes that they still hold. The pool is of the kind that K says.
+/// returned, and gives back the passes that they still hold. The pool is of the kind that K says. The workers share the
+/// state, which has a receipt of the pool's trail beside it, that has seen nothing yet.
 ///
 /// It takes 1 to 64 workers, and as many ports on devices of the configuration's geometry. At `Ok` each worker did its
 /// work, and at its place stand the worker, its own port, and the book of its client's session. The core's entries,
-/// those that were cut and its trail, are one legal history, in which no mark is above what client 0 raised it to.
+/// those that were cut and its trail, are one legal history, in which no mark is above what client 0 raised it to. The
+/// state comes back, and agrees with some trail still.
 ///
 /// `BadSettings` where the workers are not 1 to 64, the ports are not as many or one is of another geometry, the frames
 /// are not 1 to 65,536 or the room not 1 to its keeper's most, which is 16,777,216 entries in memory, or a count of
 /// 2^61; `OutOfMemory` where there is not the memory. Both come before any thread starts, and all that was given is
 /// dropped. Device faults and the pool's refusals go to the worker that called, and end no run.
-pub fn run_workers_over<K: Kind, P: Port + Send, W: Worker<P, K> + Send, R: Threads + Wait + Sync>(
+pub fn run_sharing_workers<
+    K: Kind,
+    P: Port + Send,
+    S: SharedState + Send,
+    W: SharingWorker<P, K, S> + Send,
+    R: Threads + Wait + Sync,
+>(
     rt: &R,
     alloc: Global,
     config: Config,
     ports: Vec<P>,
     workers: Vec<W>,
-) -> Result<Run<P, W, K>, Refusal>
-    ensures legal { IfOk result (λ run.
-        Legal (parameters_with config (vec_len workers)) run.core.past) }
-    ensures parameters { IfOk result (λ run.
-        run.core.parameters ≡ parameters_with config (vec_len workers)) }
-    ensures left { IfOk result (λ run.
-        SideBySide (LeftBy run.core P.geometry_of W.leaves) 0
-        (zip workers.items ports.items) run.left.items) }
+    state: S,
+) -> Result<(Run<P, W, K>, S), Refusal>
+    requires agrees { S.agrees state [] }
+    ensures legal { IfOk result (λ ran.
+        Legal (parameters_with config (vec_len workers)) ran.0.core.past) }
+    ensures parameters { IfOk result (λ ran.
+        ran.0.core.parameters ≡ parameters_with config (vec_len workers)) }
+    ensures left { IfOk result (λ ran.
+        SideBySide (LeftBy ran.0.core P.geometry_of W.leaves) 0
+        (zip workers.items ports.items) ran.0.left.items) }
+    ensures agrees { IfOk result (λ ran. (seen : Trail) × S.agrees ran.1 seen) }
     ensures answers { RunAnswers (CanRunUpTo K.MOST_ROOM P.geometry_of config ports.items
         (vec_len workers)) result }
 {
@@ -296,11 +322,35 @@ pub fn run_workers_over<K: Kind, P: Port + Send, W: Worker<P, K> + Send, R: Thre
             return Err(refusal);
         }
     };
-    let ran = run_named::<Brand, P, K, W, R>(rt, alloc, core, parts, ports, workers);
-    if let Ok(run) = &ran {
+    let ran = run_named::<Brand, P, K, S, W, R>(rt, alloc, core, parts, ports, workers, state);
+    if let Ok((run, _)) = &ran {
         run.core.keeps_the_rules();
     }
     ran
+}
+
+/// Runs workers that share nothing, as `run_sharing_workers` does.
+pub fn run_workers_over<K: Kind, P: Port + Send, W: Worker<P, K> + Send, R: Threads + Wait + Sync>(
+    rt: &R,
+    alloc: Global,
+    config: Config,
+    ports: Vec<P>,
+    workers: Vec<W>,
+) -> Result<Run<P, W, K>, Refusal>
+    ensures legal { IfOk result (λ run.
+        Legal (parameters_with config (vec_len workers)) run.core.past) }
+    ensures parameters { IfOk result (λ run.
+        run.core.parameters ≡ parameters_with config (vec_len workers)) }
+    ensures left { IfOk result (λ run.
+        SideBySide (LeftBy run.core P.geometry_of W.leaves) 0
+        (zip workers.items ports.items) run.left.items) }
+    ensures answers { RunAnswers (CanRunUpTo K.MOST_ROOM P.geometry_of config ports.items
+        (vec_len workers)) result }
+{
+    match run_sharing_workers::<K, P, (), W, R>(rt, alloc, config, ports, workers, ()) {
+        Ok((run, ())) => Ok(run),
+        Err(refusal) => Err(refusal),
+    }
 }
 
 /// Runs workers over a pool that has its trail and the sessions' lists in memory, as `run_workers_over` does: the room

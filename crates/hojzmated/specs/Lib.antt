@@ -39,6 +39,7 @@ pub use Rattle.bp_shared.specs.Keeping
 pub use Rattle.bp_shared.specs.Writing
 pub use Rattle.bp_shared.specs.FlushAll
 pub use Rattle.bp_workers.specs.Workers
+pub use Rattle.bp_workers.specs.Sharing
 pub use Rattle.bp_workers.specs.Runs
 pub use Rattle.bp_workers.specs.Logs
 pub use Rattle.bp_workers.specs.Tries

@@ -31,8 +31,8 @@ pub use bp_device::{OwnedPool, drive_fix, drive_flush, drive_flush_all, drive_ne
 
 // Workers over one pool.
 pub use bp_workers::{
-    Asked, Client, DurableLog, Kind, Leading, Left, Log, Patience, Run, Upkeep, Worker,
-    fix_durably, run_workers, run_workers_over,
+    Asked, Client, DurableLog, Kind, Leading, Left, Log, Patience, Run, SharedState, SharingWorker,
+    Upkeep, WithReceipt, Worker, fix_durably, run_sharing_workers, run_workers, run_workers_over,
 };
 
 // The shared pool that workers use, and its parts, for an engine that runs its own threads.

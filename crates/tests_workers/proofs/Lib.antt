@@ -1,2 +1,3 @@
 -- Lemmas.
 pub mod OwnPorts
+pub mod WritesSeen

@@ -20,6 +20,8 @@ mod making;
 #[cfg(test)]
 mod own_ports;
 #[cfg(test)]
+mod receipts;
+#[cfg(test)]
 mod rooms;
 #[cfg(test)]
 mod sharing;

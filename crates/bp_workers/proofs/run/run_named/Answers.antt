@@ -28,16 +28,16 @@ run_pool-requires-clause-upkeep g c κs within =
     first_keeps given c.in-Ok.jobs.items c.in-Ok.ensures.jobs (omega (arith, count, c.requires.some, c.args.workers.ok))
 
 pub returns : goal.returns
-returns g c = record { parameters = c.run_pool.ensures.parameters; left = c.run_pool.ensures.left (zip c.args.workers.items c.args.ports.items) c.in-Ok.ensures.jobs; refused = c.run_pool.ensures.refused }
+returns g c = record { parameters = c.run_pool.ensures.parameters; left = c.run_pool.ensures.left (zip c.args.workers.items c.args.ports.items) c.in-Ok.ensures.jobs; agrees = c.run_pool.ensures.agrees; refused = c.run_pool.ensures.refused }
 
 pub returns-in-Err : goal.returns-in-Err
-returns-in-Err g c = record { parameters = tt; left = tt; refused = ap Err (ap why-of c.in-Err.ensures.refused) }
+returns-in-Err g c = record { parameters = tt; left = tt; agrees = tt; refused = ap Err (ap why-of c.in-Err.ensures.refused) }
 
 pub returns-in_err-pool : goal.returns-in_err-pool
 returns-in_err-pool g c =
     let all = ap (λ (r : PoolRing). length r.rings) (sym c.requires.ring) ∙ c.requires.rings ∙ sym c.requires.clients in
     let is = err_from_is_err_and c.from_residual.result c.from_residual.ensures.1 in
-    rw (is.1 ∙ ap Err (is.2 ∙ ap why-of (c.in_err-pool.ensures.refused all))) (record { parameters = tt; left = tt; refused = refl })
+    rw (is.1 ∙ ap Err (is.2 ∙ ap why-of (c.in_err-pool.ensures.refused all))) (record { parameters = tt; left = tt; agrees = tt; refused = refl })
 
 pub new-requires : goal.new-requires
 new-requires g c = record {

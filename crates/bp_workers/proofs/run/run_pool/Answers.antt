@@ -15,7 +15,7 @@ all_left-upkeep-requires-clause-upkeep g c =
     let lent : c.as_mut_slice.result.now ≡ old = c.as_mut_slice.ensures.value in
     let kept : length new ≡ length old = c.run_jobs.ensures.counted ∙ ap length lent in
     let back = take_at new (drop (length new) old) c.args.jobs.len (omega (arith, kept, c.args.jobs.ok)) in
-    subst (λ jobs. IsSome (first_upkeep jobs)) (sym back) (still_keeps g.W.Worker.leaves old new kept (rw lent at c.run_jobs.ensures.ran) c.requires.upkeep)
+    subst (λ jobs. IsSome (first_upkeep jobs)) (sym back) (still_keeps g.W.SharingWorker.leaves old new kept (rw lent at c.run_jobs.ensures.ran) c.requires.upkeep)
 
 pub all_left-upkeep-requires-clause-numbered : goal.all_left-upkeep-requires-clause-numbered
 all_left-upkeep-requires-clause-numbered g c =
@@ -24,7 +24,7 @@ all_left-upkeep-requires-clause-numbered g c =
     let lent : c.as_mut_slice.result.now ≡ old = c.as_mut_slice.ensures.value in
     let kept : length new ≡ length old = c.run_jobs.ensures.counted ∙ ap length lent in
     let back = take_at new (drop (length new) old) c.args.jobs.len (omega (arith, kept, c.args.jobs.ok)) in
-    subst (AreNumbered 0) (sym back) (ran_numbered g.W.Worker.leaves 0 old new kept (rw lent at c.run_jobs.ensures.ran) c.requires.numbered)
+    subst (AreNumbered 0) (sym back) (ran_numbered g.W.SharingWorker.leaves 0 old new kept (rw lent at c.run_jobs.ensures.ran) c.requires.numbered)
 
 pub returns : goal.returns
 returns g c =
@@ -37,13 +37,14 @@ returns g c =
     let whole : c.all_left-upkeep.new.pool.past ≡ c.into_core-core.result.0.past = sym (ap (λ (core : CoreView). core.past) end.core) in
     record {
       parameters = end.parameters;
-      left = λ given are. all_left_by g.N.PoolName.parameters g.P.Port.geometry_of c.into_core-core.result.0 g.W.Worker.leaves (upkeep_value c.all_left-upkeep.result.0) given old new c.all_left-upkeep.result.1.items are kept (rw lent at c.run_jobs.ensures.ran) (rw whole at (rw c.requires.new at (rw back at c.all_left-upkeep.ensures.left))) (sym end.parameters)
+      left = λ given are. all_left_by g.N.PoolName.parameters g.P.Port.geometry_of c.into_core-core.result.0 g.W.SharingWorker.leaves (upkeep_value c.all_left-upkeep.result.0) given old new c.all_left-upkeep.result.1.items are kept (rw lent at c.run_jobs.ensures.ran) (rw whole at (rw c.requires.new at (rw back at c.all_left-upkeep.ensures.left))) (sym end.parameters)
           (rw back at c.all_left-upkeep.ensures.upkeep) (sym end.before, omega (arith, end.seen, c.close.ensures.seen, c.close.ensures.frontier, c.into_log_end.ensures.frontier));
+      agrees = (_, c.state.invariant);
       refused = tt;
     }
 
 pub returns-in_default : goal.returns-in_default
-returns-in_default g c = record { parameters = tt; left = λ given are. tt; refused = refl }
+returns-in_default g c = record { parameters = tt; left = λ given are. tt; agrees = tt; refused = refl }
 
 pub close-requires : goal.close-requires
 close-requires g c =

@@ -1,5 +1,5 @@
 -- The mark, the core and the ring that were just made.
-use Rattle.bp_workers.proofs.run.run_workers_over.Given as goal
+use Rattle.bp_workers.proofs.run.run_sharing_workers.Given as goal
 
 abbrev pub ghosts-run_named : goal.ghosts-run_named
 ghosts-run_named g a = record {

@@ -7,7 +7,7 @@ use Rattle.bp_page.specs.declared.refusals.Refusal.TheVariants as refusal
 use Rattle.bp_core.specs.CoreView.{CoreView}
 use Rattle.bp_core.specs.declared.config.Config.{Config}
 use Rattle.bp_workers.specs.Runs.{FitTogether, CanRunUpTo, RunAnswers}
-use Rattle.bp_workers.proofs.run.run_workers_over.Goals as goal
+use Rattle.bp_workers.proofs.run.run_sharing_workers.Goals as goal
 
 -- what is said of the ports and the count that were lent
 lent : {P : Type 0} (geometry_of : P → Geometry) (config : Config) (ports given : List P) (count counted : ℕ) → given ≡ ports → counted ≡ count → FitTogether geometry_of config given counted → FitTogether geometry_of config ports count
@@ -48,5 +48,6 @@ returns-then-not-fit_together g c = record {
   legal = tt;
   parameters = tt;
   left = tt;
+  agrees = tt;
   answers = λ can. absurd (false≢true (sym c.if-not-fit_together.true ∙ c.fit_together.ensures.1 (lent g.P.Port.geometry_of c.args.config c.deref.result.now c.args.ports.items c.len.result (vec_len c.args.workers) (sym c.deref.ensures.value) (sym c.len.ensures) can.fit)));
 }

@@ -1,0 +1,2 @@
+-- What a log says of the trail of its pool.
+pub mod Receipts
