@@ -1,4 +1,4 @@
-//! `run_clients`: runs a thread for each client, and compares their lists with the trail once all have ended.
+//! `run_clients`: runs a thread for each client, and looks once all have ended whether each script was run whole.
 ghost use Rattle.std.specs.Prelude.{◌≡◌, ◌≤◌, ◌<◌, IfErr, IfOk, OnErr, OnOk, All, [], map};
 ghost use Rattle.std.specs.Prelude.{reverse, vec_len};
 ghost use Rattle.bp_page.specs.declared.refusals.Refusal.TheVariants as Refusal;
@@ -144,8 +144,8 @@ fn joined<P: Port>(
 /// list is the trail's entries of that client and follows its script; no mark is ahead of the log rows of client 0; and
 /// each port, which comes back, did the work that its client's list tells and nothing else. `BadSettings` where the
 /// frames are not 1 to 65,536 or the room not 1 to 16,777,216, before any thread starts. `OutOfMemory` where memory is
-/// refused outside a row. `Disagree` where a client was given what the pool did not know, or what
-/// it saw is not what the trail has of it. Threads have ended at every return.
+/// refused outside a row. `Disagree` where a script was not run whole, a pass did not go back, or a mark is above the log
+/// rows of client 0. Threads have ended at every return.
 pub fn run_clients<P: Port + Send, R: Threads + Wait + Sync>(
     rt: &R,
     alloc: Global,
