@@ -51,9 +51,13 @@ WritesBlank {S} writes headed size (suc pages) store after =
     × writes between (pages * slot_length headed size) (slot_of headed pages 0 (replicate size 0))
     true after
 
--- each page of a store was written so, then the store was synced, and it was asked for no other
+-- so many slots of a store were written so, then the store was synced, and it was asked for no other
 -- read, write or sync
+abbrev pub FillsSlots : {S : Type 0} → Transfer S → StoreSync S → Bool → ℕ → ℕ → S → S → Type 0
+FillsSlots {S} writes syncs headed size pages store after =
+    (filled : S) × WritesBlank writes headed size pages store filled × syncs filled true after
+
+-- the slot of each page was
 abbrev pub FillsStore : {S : Type 0} → Transfer S → StoreSync S → Bool → Geometry → S → S → Type 0
-FillsStore {S} writes syncs headed geometry store after =
-    (filled : S) × WritesBlank writes headed geometry.size geometry.pages store filled
-    × syncs filled true after
+FillsStore writes syncs headed geometry store after =
+    FillsSlots writes syncs headed geometry.size geometry.pages store after

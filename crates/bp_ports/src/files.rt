@@ -2,8 +2,8 @@
 ghost use Rattle.std.specs.Prelude.{◌≡◌, ◌≢◌, ◌<◌, ◌≤◌, ◌+◌, ◌*◌, ◌↔◌, ℕ, true, false, IsOk, IfOk, IfErr, OnErr, IsSome, IfSome, length, vec_len};
 ghost use Rattle.bp_page.specs.Limits.{IsGeometry};
 ghost use Rattle.bp_page.specs.Slots.{slot_size};
-ghost use Rattle.bp_ports.specs.Ports.{PortView, has_headers};
-ghost use Rattle.bp_ports.specs.Files.{FoundWithLsn, IsFileLength, IsOpenFault, ReadsStore, ReadsWithLsn, WritesStore, SyncsStore, place_of, room_of};
+ghost use Rattle.bp_ports.specs.Ports.{Counts, IsCounted, IsUnasked, PortView, has_headers};
+ghost use Rattle.bp_ports.specs.Files.{FoundWithLsn, IsFileLength, IsOpenFault, ReadsStore, ReadsWithLsn, WritesStore, WrittenBy, SyncsStore, place_of, room_of, slot_of};
 
 use crate::failures::Failures;
 use crate::places::start_of;
@@ -147,9 +147,25 @@ impl<S: Store> FilePort<S> {
         ensures same { (self.new.device ≡ self.old.device) × (self.new.headed ≡ self.old.headed) }
         ensures gives { ReadsWithLsn S.reads self.old page result self.new }
     {
-        let Some(start) = self.start(page) else {
-            return Err(self.count.add());
-        };
+        match self.start(page) {
+            Some(start) => self.read_at(page, start),
+            None => Err(self.count.add()),
+        }
+    }
+
+    /// Reads the slot that begins at this byte, in which the page's number stands, with the faults of `read_with_lsn`.
+    pub(crate) fn read_at(
+        &mut self,
+        page: PageNo,
+        start: u64,
+    ) -> Result<(Option<Lsn>, Image), PortFault>
+        ensures size { IfOk result (λ found. length found.1 ≡ self.old.device.size) }
+        ensures wrong { result ≡ Err PortFault.WrongPage → self.old.headed ≡ true }
+        ensures same { (self.new.device ≡ self.old.device) × (self.new.headed ≡ self.old.headed) }
+        ensures counts { Counts result self.old.failures self.new.failures }
+        ensures found { FoundWithLsn S.reads self.old.headed page start self.old.store result
+            self.new.store }
+    {
         let size = self.device.size;
         let read = match self.format {
             Format::Plain => read_plain(&mut self.store, self.alloc, start, size),
@@ -158,6 +174,58 @@ impl<S: Store> FilePort<S> {
             }
         };
         self.count.count_failure(read)
+    }
+
+    /// Writes the slot that begins at this byte, with the page's number and page LSN in it in version 2. An image of
+    /// another size than the device's pages is a failure, and nothing is written then. It takes no memory: a slot of
+    /// version 1 is the image's own bytes, and one of version 2 is made in the buffer.
+    pub(crate) fn write_at(
+        &mut self,
+        page: PageNo,
+        start: u64,
+        image: &Image,
+        lsn: Lsn,
+    ) -> Result<(), PortFault>
+        ensures fault { OnErr result (result ≡ Err PortFault.Device) }
+        ensures same { (self.new.device ≡ self.old.device) × (self.new.headed ≡ self.old.headed) }
+        ensures counts { Counts result self.old.failures self.new.failures }
+        ensures sized { length image.now ≢ self.old.device.size
+            → IsUnasked result self.old.store self.new.store }
+        ensures written { length image.now ≡ self.old.device.size → WrittenBy S.writes start
+            self.old.store (slot_of self.old.headed page lsn image.now) result self.new.store }
+    {
+        if image.bytes().len() != self.device.size {
+            return Err(self.count.add());
+        }
+        let written = match self.format {
+            Format::Plain => self.store.write_slot(start, image.bytes()),
+            Format::Headed => {
+                fill_slot2(&mut self.buffer, page, lsn, image);
+                self.store.write_slot(start, &self.buffer)
+            }
+        };
+        match written {
+            Ok(()) => Ok(()),
+            Err(_) => Err(self.count.add()),
+        }
+    }
+
+    /// Adds a failure of the device that no call of the store was.
+    pub(crate) fn fail(&mut self) -> PortFault
+        ensures fault { result ≡ PortFault.Device }
+        ensures counted { IsCounted self.old.failures self.new.failures }
+        ensures same { (self.new.device ≡ self.old.device) × (self.new.headed ≡ self.old.headed) }
+        ensures store { self.new.store ≡ self.old.store }
+    {
+        self.count.add()
+    }
+
+    /// Returns the byte at which the slot with a page's number begins, also where the page is another stripe's.
+    pub(crate) fn start_of_slot(&self, page: PageNo) -> u64
+        requires few { page < 67108864 }
+        ensures { result ≡ place_of self.now page }
+    {
+        page.number() * self.format.slot_size(self.device.size) as u64
     }
 
     /// Returns the byte at which a page's slot begins, or `None` where the file has no such page.
@@ -240,8 +308,6 @@ impl<S: Store> Port for FilePort<S> {
         }
     }
 
-    // A slot of version 1 is the image's own bytes, and one of version 2 is made in the buffer, so a write takes no
-    // memory.
     fn write<R: Wait>(
         &mut self,
         _rt: &R,
@@ -249,22 +315,9 @@ impl<S: Store> Port for FilePort<S> {
         image: &Image,
         lsn: Lsn,
     ) -> Result<(), PortFault> {
-        let Some(start) = self.start(page) else {
-            return Err(self.count.add());
-        };
-        if image.bytes().len() != self.device.size {
-            return Err(self.count.add());
-        }
-        let written = match self.format {
-            Format::Plain => self.store.write_slot(start, image.bytes()),
-            Format::Headed => {
-                fill_slot2(&mut self.buffer, page, lsn, image);
-                self.store.write_slot(start, &self.buffer)
-            }
-        };
-        match written {
-            Ok(()) => Ok(()),
-            Err(_) => Err(self.count.add()),
+        match self.start(page) {
+            Some(start) => self.write_at(page, start, image, lsn),
+            None => Err(self.count.add()),
         }
     }
 

@@ -20,8 +20,9 @@ seen_on start mid past a b = (b.0 ++ a.0, b.1 ∙ ap (λ es. b.0 ++ es) a.1 ∙ 
 -- the trail and the list, which were the same of the client, got the same entries, and the session saw
 -- the trail
 pub shows : (c : Parameters) (start : Trail) (old new : SessionValue) (core after : CoreView) → core.parameters ≡ c → after.parameters ≡ core.parameters → Legal after.parameters after.past → IsListOf start core.past old.client old.said
-    → Adds old.client core.past old.said after.past new.said → new.client ≡ old.client → old.free ≡ 32 → new.free ≡ old.free → GoesOnFrom old.seen core.past → new.seen ≡ after.past → Acted c start old new
-shows c start old new core after are same legal listed adds client free still on seen = record {
+    → Adds old.client core.past old.said after.past new.said → new.client ≡ old.client → old.free ≡ 32 → new.free ≡ old.free → GoesOnFrom old.seen core.past → new.seen ≡ after.past → new.part ≡ old.part → Acted c start old new
+shows c start old new core after are same legal listed adds client free still on seen part = record {
+  part = part;
   few = omega (arith, free);
   free = still ∙ free;
   legal = subst (Legal c) (sym seen) (subst (λ p. Legal p after.past) (same ∙ are) legal);
@@ -35,6 +36,7 @@ looks c start old new s =
     let client : new.client ≡ old.client = ap (λ (v : SessionValue). v.client) s.same in
     let said : new.said ≡ old.said = ap (λ (v : SessionValue). v.said) s.same in
     record {
+      part = ap (λ (v : SessionValue). v.part) s.same;
       few = s.free;
       free = ap (λ (v : SessionValue). v.free) s.same;
       legal = s.legal;
@@ -43,8 +45,8 @@ looks c start old new s =
     }
 
 -- before it the session's own ring was emptied, and memory taken
-pub begun : (c : Parameters) (start : Trail) (old mid new : SessionValue) → old.free ≤ 32 → mid.seen ≡ old.seen → Acted c start mid new → Acted c start old new
-begun c start old mid new few seen a = record { few = few; free = a.free; legal = a.legal; list_is = a.list_is; goes_on = subst (λ s. GoesOnFrom s new.seen) seen a.goes_on }
+pub begun : (c : Parameters) (start : Trail) (old mid new : SessionValue) → old.free ≤ 32 → mid.seen ≡ old.seen → mid.part ≡ old.part → Acted c start mid new → Acted c start old new
+begun c start old mid new few seen part a = record { part = a.part ∙ part; few = few; free = a.free; legal = a.legal; list_is = a.list_is; goes_on = subst (λ s. GoesOnFrom s new.seen) seen a.goes_on }
 
 -- ---- why a section was refused
 pub fills : (n m : ℕ) (c : Parameters) (core after : CoreView) (seen : Trail) → core.parameters ≡ c → n ≤ m → LacksRoomFor n core → after ≡ core → seen ≡ after.past → FillsRoom m c seen
@@ -73,15 +75,16 @@ may_act c start (Err refusal.UnknownPass) old new a = a
 may_act c start (Err _) old new a = inr a
 
 pub idle : (c : Parameters) (start : Trail) (old : SessionValue) → MayAct c start old old
-idle c start old = inl (record { client = refl; said = refl; seen = refl; free = refl })
+idle c start old = inl (record { part = refl; client = refl; said = refl; seen = refl; free = refl })
 
 -- ---- one call after another
 pub all_more : (c : Parameters) (start : Trail) (old mid new : SessionValue) → MayAct c start old mid → Acted c start mid new → Acted c start old new
-all_more c start old mid new (inl i) a = begun c start old mid new (subst (λ n. n ≤ 32) i.free a.few) i.seen a
-all_more c start old mid new (inr m) a = record { few = m.few; free = a.free; legal = a.legal; list_is = a.list_is; goes_on = seen_on old.seen mid.seen new.seen m.goes_on a.goes_on }
+all_more c start old mid new (inl i) a = begun c start old mid new (subst (λ n. n ≤ 32) i.free a.few) i.seen i.part a
+all_more c start old mid new (inr m) a = record { part = a.part ∙ m.part; few = m.few; free = a.free; legal = a.legal; list_is = a.list_is; goes_on = seen_on old.seen mid.seen new.seen m.goes_on a.goes_on }
 
 pub all_then : (c : Parameters) (start : Trail) (old mid new : SessionValue) → Acted c start old mid → MayAct c start mid new → Acted c start old new
 all_then c start old mid new a (inl i) = record {
+  part = i.part ∙ a.part;
   few = a.few;
   free = i.free ∙ a.free;
   legal = subst (Legal c) (sym i.seen) a.legal;
@@ -91,7 +94,7 @@ all_then c start old mid new a (inl i) = record {
 all_then c start old mid new a (inr m) = all_more c start old mid new (inr a) m
 
 pub may_more : (c : Parameters) (start : Trail) (old mid new : SessionValue) → MayAct c start old mid → MayAct c start mid new → MayAct c start old new
-may_more c start old mid new (inl a) (inl b) = inl (record { client = b.client ∙ a.client; said = b.said ∙ a.said; seen = b.seen ∙ a.seen; free = b.free ∙ a.free })
+may_more c start old mid new (inl a) (inl b) = inl (record { part = b.part ∙ a.part; client = b.client ∙ a.client; said = b.said ∙ a.said; seen = b.seen ∙ a.seen; free = b.free ∙ a.free })
 may_more c start old mid new (inr a) (inl b) = inr (all_then c start old mid new a (inl b))
 may_more c start old mid new m (inr a) = inr (all_more c start old mid new m a)
 

@@ -15,3 +15,4 @@ pub mod Waiting
 pub mod Owning
 pub mod Reaching
 pub mod Writing
+pub mod Belonging

@@ -12,18 +12,20 @@ use Rattle.bp_core.specs.Outcomes.{takes_memory}
 use Rattle.bp_shared.specs.Sessions.{SessionValue, IsRoomy}
 use Rattle.bp_shared.specs.Telling.{GoesOnFrom, IsListOf}
 
--- the session made no section, and its list got nothing
+-- the session, of the same pool, made no section, and its list got nothing
 pub record Idles (old new : SessionValue) : Type 0 where
+  pub part : new.part ≡ old.part
   pub client : new.client ≡ old.client
   pub said : new.said ≡ old.said
   pub seen : new.seen ≡ old.seen
   pub free : new.free ≡ old.free
 
--- the session made a section: it took back what the session had posted, so that all 32 places of the
--- ring are free, and at its end it showed the session the trail. That is a legal list, whose entries
--- of the client are the session's list, each unfix in its place, and goes on from what the session
--- saw before
+-- the session, of the same pool, made a section: it took back what the session had posted, so that
+-- all 32 places of the ring are free, and at its end it showed the session the trail. That is a
+-- legal list, whose entries of the client are the session's list, each unfix in its place, and goes
+-- on from what the session saw before
 pub record Acted (c : Parameters) (start : Trail) (old new : SessionValue) : Type 0 where
+  pub part : new.part ≡ old.part
   pub few : old.free ≤ 32
   pub free : new.free ≡ 32
   pub legal : Legal c new.seen

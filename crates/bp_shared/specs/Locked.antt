@@ -29,9 +29,11 @@ no_parameters =
       room = 0;
     }
 
--- what lies under the lock: the core, the greatest LSN that its reader has seen, how often device
--- work ended, modulo 2^64, and the rings in the order in which they are drained
+-- what lies under the lock: the number of the pool, the core, the greatest LSN that its reader has
+-- seen, how often device work ended, modulo 2^64, and the rings in the order in which they are
+-- drained
 pub record LockedValue : Type 0 where
+  pub part : ℕ
   pub core : CoreView
   pub seen : ℕ
   pub ends : ℕ
@@ -47,6 +49,7 @@ pub record IsLocked (mark : MarkName) (parameters : Parameters) (core : CoreView
 
 -- the rings were drained, and nothing else was done
 pub record Drained (old new : LockedValue) : Type 0 where
+  pub part : new.part ≡ old.part
   pub parameters : new.core.parameters ≡ old.core.parameters
   pub before : new.core.before ≡ old.core.before
   pub seen : new.seen ≡ old.seen
@@ -59,7 +62,7 @@ IsDrained state = (was : LockedValue) × Drained was state
 
 -- a section of a session has begun: the rings were drained, then the session's own once more, with
 -- both its ends at hand; so the trail's entries of the client are the session's list, and its ring is
--- empty
+-- empty. Both are of one pool
 pub record Enters (start : Trail) (session : SessionValue) (state : LockedValue) : Type 0 where
   pub was : LockedValue
   pub mid : LockedValue
@@ -68,6 +71,7 @@ pub record Enters (start : Trail) (session : SessionValue) (state : LockedValue)
   pub legal : Legal state.core.parameters state.core.past
   pub list_is : IsListOf start state.core.past session.client session.said
   pub emptied : session.free ≡ 32
+  pub part : session.part ≡ state.part
 
 -- the core did what the event says, and the trail and the list got the same entries
 pub record InStep (Event : CoreView → CoreView → Type 0) (old : LockedValue) (said : Trail)

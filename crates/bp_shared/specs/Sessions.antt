@@ -21,11 +21,13 @@ use Rattle.bp_core.specs.Added.{Gives, Ends}
 use Rattle.bp_trail.specs.Ends.{flushed_reply, discarded_reply}
 use Rattle.bp_core.specs.Work.{Reads, Writes, WorksThrough}
 
--- whose session it is, and its list: what cuts handed out, and all of it; the pool's trail as a call
--- of the session saw it last; in how many places of its ring it knows no pass; for how many entries
--- the list has room beyond all that it owes, for how many passes, and for how many copies of images;
--- and for how many copies there is a place
+-- the number of its pool, where several stand side by side; whose session it is, and its list: what
+-- cuts handed out, and all of it; the pool's trail as a call of the session saw it last; in how many
+-- places of its ring it knows no pass; for how many entries the list has room beyond all that it
+-- owes, for how many passes, and for how many copies of images; and for how many copies there is a
+-- place
 pub record SessionValue : Type 0 where
+  pub part : ℕ
   pub client : ℕ
   pub before : Trail
   pub said : Trail
@@ -48,11 +50,12 @@ IsRoomy s = IsRoomyFor 1 s
 abbrev pub IsLong : SessionValue → Type 0
 IsLong s = 2 ^ 61 ≤ length s.said
 
--- a session that said nothing, and saw of its pool the trail that it was made with, with 32 free
--- places in its ring
-abbrev pub new_session : Trail → ℕ → SessionValue
-new_session start client =
+-- a session of the pool of this number that said nothing, and saw of it the trail that it was made
+-- with, with 32 free places in its ring
+abbrev pub new_session_of : ℕ → Trail → ℕ → SessionValue
+new_session_of part start client =
     record {
+      part = part;
       client = client;
       before = [];
       said = [];
@@ -64,10 +67,18 @@ new_session start client =
       places = 0;
     }
 
+-- and one of a pool that stands alone
+abbrev pub new_session : Trail → ℕ → SessionValue
+new_session start client = new_session_of 0 start client
+
 -- a new session for each client, in order
+abbrev pub new_sessions_of : ℕ → Trail → ℕ → List SessionValue
+new_sessions_of part start zero = []
+new_sessions_of part start (suc n) =
+    new_sessions_of part start n ++ new_session_of part start n ∷ []
+
 abbrev pub new_sessions : Trail → ℕ → List SessionValue
-new_sessions start zero = []
-new_sessions start (suc n) = new_sessions start n ++ new_session start n ∷ []
+new_sessions start n = new_sessions_of 0 start n
 
 -- what the list had was handed out, and all else goes on
 abbrev pub IsCut : SessionValue → SessionValue → Type 0
@@ -137,7 +148,7 @@ abbrev pub UnfixSaid : {A : Type 0} → SessionValue → Pass → Result A (Pass
 UnfixSaid old pass (Ok done) new =
     (pass_is_out pass old.said ≡ true) × (pass.client ≡ old.client)
     × (new.said ≡ by old.client (Unfix pass.serial pass.page) Done ∷ old.said)
-    × (old.free ≤ new.free + 1)
+    × (old.free ≤ new.free + 1) × (new.part ≡ old.part)
 UnfixSaid old pass (Err (back, refusal.UnknownPass)) new =
     (pass_is_out pass old.said ≡ false) × (back ≡ pass) × (new ≡ old)
 UnfixSaid old pass (Err (back, refusal.RingFull)) new =

@@ -32,9 +32,10 @@ no_ring = record { trail = no_name; board = 0; seen = 0; rings = [] }
 abbrev pub IsEmptied : {T A P : Type 0} → Producer T A P → Type 0
 IsEmptied pieces = (producer_capacity pieces ≡ 1) × (known_free pieces ≡ 1)
 
--- the entries so far, newest first: those from before the pool, and those of the pieces that were
--- taken; and how many pieces these are
+-- the number of the pool; the entries so far, newest first: those from before the pool, and those
+-- of the pieces that were taken; and how many pieces these are
 pub record TakerValue : Type 0 where
+  pub part : ℕ
   pub past : Trail
   pub pieces : ℕ
 

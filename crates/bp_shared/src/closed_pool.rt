@@ -1,6 +1,6 @@
 //! `ClosedPool`: a pool that is shared no more, at which sessions end before its core is taken out.
 use crate::locked_pool::LockedPool;
-use crate::names::PoolName;
+use crate::names::{One, PartNames, PoolName};
 use crate::session::Session;
 use crate::taker::Taker;
 use bp_core::PoolCore;
@@ -12,12 +12,12 @@ use std::marker::Model;
 /// A pool that is shared no more: its sessions are ended one by one, and then its core is taken out. Contracts see it
 /// as its core.
 #[derive(Drop)]
-pub struct ClosedPool<N: PoolName, K: ListKeeper = RecordingKeeper> {
+pub struct ClosedPool<N: PartNames, K: ListKeeper = RecordingKeeper> {
     mark: Mark,
     state: LockedPool<N, K>,
 }
 
-impl<N: PoolName, K: ListKeeper> Model for ClosedPool<N, K> {
+impl<N: PartNames, K: ListKeeper> Model for ClosedPool<N, K> {
     ghost use Rattle.std.specs.Prelude.{◌≡◌};
     ghost use Rattle.bp_core.specs.CoreView.{CoreView};
 
@@ -25,10 +25,10 @@ impl<N: PoolName, K: ListKeeper> Model for ClosedPool<N, K> {
 
     ghost view = { λ p. p.state.core };
 
-    ghost invariant = { λ p. p.mark ≡ N.mark };
+    ghost invariant = { λ p. p.mark ≡ N.mark p.state.part };
 }
 
-impl<N: PoolName, K: ListKeeper> ClosedPool<N, K> {
+impl<N: PartNames, K: ListKeeper> ClosedPool<N, K> {
     ghost use Rattle.std.specs.Prelude.{◌≡◌, ◌≤◌};
     ghost use Rattle.bp_trail.specs.Clock.{durable};
     ghost use Rattle.bp_shared.specs.Posting.{TakesBack};
@@ -36,11 +36,18 @@ impl<N: PoolName, K: ListKeeper> ClosedPool<N, K> {
 
     /// Makes a closed pool of a state that nobody else has.
     pub(crate) fn new(mark: Mark, state: LockedPool<N, K>) -> ClosedPool<N, K>
-        requires mark { mark ≡ N.mark }
+        requires mark { mark ≡ N.mark state.part }
         ensures core { result ≡ state.core }
     {
         ClosedPool { mark, state }
     }
+}
+
+impl<N: PoolName, K: ListKeeper> ClosedPool<One<N>, K> {
+    ghost use Rattle.std.specs.Prelude.{◌≡◌, ◌≤◌};
+    ghost use Rattle.bp_trail.specs.Clock.{durable};
+    ghost use Rattle.bp_shared.specs.Posting.{TakesBack};
+    ghost use Rattle.bp_shared.specs.Telling.{GoesOnFrom, IsListOf};
 
     /// Ends a session and returns its book, as [`Session::into_book`] does. It takes no memory.
     ///
@@ -54,7 +61,7 @@ impl<N: PoolName, K: ListKeeper> ClosedPool<N, K> {
     /// So this core gave each answer that the list has, the client has no other entry, and a page is pinned while its
     /// client's list holds a pass of it. Where `TrailFull` or `ClockFull` was answered, the trail that the session saw had no
     /// room, or its clock would have run over: that trail too is an older part of this one.
-    pub fn end_session(&mut self, session: Session<N, K>) -> Book<K>
+    pub fn end_session(&mut self, session: Session<One<N>, K>) -> Book<K>
         ensures takes { TakesBack session.client self.old self.new }
         ensures client { result.client ≡ session.client }
         ensures before { result.before ≡ session.before }
@@ -67,7 +74,7 @@ impl<N: PoolName, K: ListKeeper> ClosedPool<N, K> {
 
     /// Ends the pool and returns the core, the mark and its reader. It neither waits nor takes memory. The core's trail
     /// goes on from all that the taker was handed, and from what it had when the pool was made.
-    pub fn into_core(self, taker: Taker<N>) -> (PoolCore<K>, Mark, Reader)
+    pub fn into_core(self, taker: Taker<One<N>>) -> (PoolCore<K>, Mark, Reader)
         ensures core { result.0 ≡ self }
         ensures goes_on { GoesOnFrom N.past result.0.past }
         ensures before { result.0.before ≡ taker.past }
@@ -79,5 +86,52 @@ impl<N: PoolName, K: ListKeeper> ClosedPool<N, K> {
         let ClosedPool { mark, state } = self;
         let (core, reader) = state.into_parts(taker);
         (core, mark, reader)
+    }
+}
+
+/// What ends one of several pools side by side: its core, its mark and the mark's reader; or, where the taker is
+/// another pool's, both back.
+pub type EndedPart<N, K> = Result<(PoolCore<K>, Mark, Reader), (ClosedPool<N, K>, Taker<N>)>;
+
+impl<N: PartNames, K: ListKeeper> ClosedPool<N, K> {
+    ghost use Rattle.std.specs.Prelude.{◌≡◌, ◌≤◌, IfOk, IfErr};
+    ghost use Rattle.bp_trail.specs.Clock.{durable};
+    ghost use Rattle.bp_shared.specs.Posting.{TakesBack};
+    ghost use Rattle.bp_shared.specs.Telling.{GoesOnFrom, IsListOf};
+
+    /// Ends a session of one of several pools side by side, as `end_session` does, where this is its pool. A session of
+    /// another is handed back, and nothing changes.
+    pub fn end_part_session(&mut self, session: Session<N, K>) -> Result<Book<K>, Session<N, K>>
+        ensures takes { IfOk result (λ book. TakesBack session.client self.old self.new) }
+        ensures client { IfOk result (λ book. book.client ≡ session.client) }
+        ensures before { IfOk result (λ book. book.before ≡ session.before) }
+        ensures said { IfOk result (λ book. book.said ≡ session.said) }
+        ensures seen { IfOk result (λ book. GoesOnFrom session.seen self.new.past) }
+        ensures theirs { IfOk result (λ book.
+            IsListOf N.past self.new.past session.client session.said) }
+        ensures other { IfErr result (λ back. (back ≡ session) × (self.new ≡ self.old)) }
+    {
+        if session.part() != self.state.part() {
+            return Err(session);
+        }
+        Ok(self.state.end_session(session))
+    }
+
+    /// Ends one of several pools side by side, as `into_core` does, where the taker is its own. Else both come back.
+    pub fn into_part_core(self, taker: Taker<N>) -> EndedPart<N, K>
+        ensures core { IfOk result (λ out. out.0 ≡ self) }
+        ensures goes_on { IfOk result (λ out. GoesOnFrom N.past out.0.past) }
+        ensures before { IfOk result (λ out. out.0.before ≡ taker.past) }
+        ensures reader { IfOk result (λ out. out.2.mark ≡ out.1) }
+        ensures parameters { IfOk result (λ out. out.0.parameters ≡ N.parameters) }
+        ensures seen { IfOk result (λ out. durable out.0.past ≤ out.2.seen) }
+        ensures other { IfErr result (λ back. (back.0 ≡ self) × (back.1 ≡ taker)) }
+    {
+        if taker.part != self.state.part() {
+            return Err((self, taker));
+        }
+        let ClosedPool { mark, state } = self;
+        let (core, reader) = state.into_parts(taker);
+        Ok((core, mark, reader))
     }
 }

@@ -17,22 +17,32 @@ mod log_writer;
 pub mod names;
 mod parts;
 pub mod pool;
-mod receipt;
-mod session;
-mod taker;
+pub mod receipt;
+pub mod session;
+pub mod taker;
 mod trail_ring;
 
-use bp_keeper::SilentKeeper;
+use bp_keeper::{RecordingKeeper, SilentKeeper};
 pub use bp_trail::{Discarded, Flushed};
-pub use closed_pool::ClosedPool;
 pub use log_writer::LogWriter;
-pub use names::PoolName;
+pub use names::{One, PartNames, PoolName};
 pub use parts::Parts;
-pub use pool::SharedPool;
-pub use receipt::Receipt;
-pub use session::Session;
-pub use taker::Taker;
 pub use trail_ring::TrailRing;
+
+/// A pool that stands alone: a [`SharedPool`](pool::SharedPool) of one name.
+pub type SharedPool<N, K = RecordingKeeper> = pool::SharedPool<One<N>, K>;
+
+/// A client's end of it.
+pub type Session<N, K = RecordingKeeper> = session::Session<One<N>, K>;
+
+/// What takes its trail.
+pub type Taker<N> = taker::Taker<One<N>>;
+
+/// A part of its trail that was seen.
+pub type Receipt<N> = receipt::Receipt<One<N>>;
+
+/// It, once it is shared no more.
+pub type ClosedPool<N, K = RecordingKeeper> = closed_pool::ClosedPool<One<N>, K>;
 
 /// A shared pool that only counts the entries of its core and of its sessions. Its calls have the same clauses. Trail
 /// and lists stand in proofs alone, and agree as those of a recording pool do.

@@ -1,6 +1,6 @@
 //! `LockedPool`: the core, its reader of the mark, and the ends of the rings at which passes come out, all under one
 //! lock.
-use crate::names::PoolName;
+use crate::names::PartNames;
 use crate::session::{Past, Session, Told};
 use crate::taker::Taker;
 use crate::trail_ring::join_ends;
@@ -19,7 +19,9 @@ mod turns;
 /// The pool as one thread sees it while it holds the lock. Its trail is legal, by the core's own type; the reader is
 /// the mark's, and has seen every LSN that the core has marked.
 #[derive(Drop)]
-pub(crate) struct LockedPool<N: PoolName, K: ListKeeper> {
+pub(crate) struct LockedPool<N: PartNames, K: ListKeeper> {
+    /// The number of the pool.
+    part: u8,
     core: PoolCore<K>,
     reader: Reader,
     /// The ring of each client.
@@ -35,7 +37,7 @@ pub(crate) struct LockedPool<N: PoolName, K: ListKeeper> {
     of: PhantomData<N>,
 }
 
-impl<N: PoolName, K: ListKeeper> Model for LockedPool<N, K> {
+impl<N: PartNames, K: ListKeeper> Model for LockedPool<N, K> {
     ghost use Rattle.std.specs.Prelude.{◌≡◌, map, length};
     ghost use Rattle.bp_shared.specs.Locked.{LockedValue, IsLocked};
     ghost use Rattle.bp_session_log.specs.Rings.{ring_view};
@@ -46,21 +48,22 @@ impl<N: PoolName, K: ListKeeper> Model for LockedPool<N, K> {
     ghost Value = { LockedValue };
 
     ghost view = { λ s. record {
+      part = s.part;
       core = s.core;
       seen = s.reader.seen;
       ends = s.ends;
       rings = map ring_view s.consumers.items;
     } };
 
-    ghost invariant = { λ s. IsLocked N.mark N.parameters s.core s.reader
-        × IsHandedOut N.ring.trail N.before s.pieces s.core
-        × IsShown N.ring.board N.past s.board s.core.past
-        × IsPosted N.ring.rings N.past (map ring_view s.consumers.items) s.core.past
-        × (length N.ring.rings ≡ N.parameters.clients)
-        × AreEarlier N.ring.seen s.seen s.core.past };
+    ghost invariant = { λ s. IsLocked (N.mark s.part) N.parameters s.core s.reader
+        × IsHandedOut (N.ring s.part).trail N.before s.pieces s.core
+        × IsShown (N.ring s.part).board N.past s.board s.core.past
+        × IsPosted (N.ring s.part).rings N.past (map ring_view s.consumers.items) s.core.past
+        × (length (N.ring s.part).rings ≡ N.parameters.clients)
+        × AreEarlier (N.ring s.part).seen s.seen s.core.past };
 }
 
-impl<N: PoolName, K: ListKeeper> LockedPool<N, K> {
+impl<N: PartNames, K: ListKeeper> LockedPool<N, K> {
     ghost use Rattle.std.specs.Prelude.{◌≡◌, ◌≤◌, [], All, map, length};
     ghost use Rattle.rtrb.specs.Ring.{sent, received};
     ghost use Rattle.bp_trail.specs.Clock.{durable};
@@ -73,6 +76,7 @@ impl<N: PoolName, K: ListKeeper> LockedPool<N, K> {
 
     /// Makes the locked state of a core, whose rings gave nothing yet.
     pub(crate) fn new(
+        part: u8,
         core: PoolCore<K>,
         reader: Reader,
         consumers: Vec<Consumer<PassNote>>,
@@ -80,22 +84,24 @@ impl<N: PoolName, K: ListKeeper> LockedPool<N, K> {
         board: Board,
         seen: Board,
     ) -> LockedPool<N, K>
-        requires reader { reader.mark ≡ N.mark }
+        requires reader { reader.mark ≡ N.mark part }
         requires parameters { core.parameters ≡ N.parameters }
         requires before { core.before ≡ N.before }
-        requires ring { ring_of pieces ≡ N.ring.trail }
+        requires ring { ring_of pieces ≡ (N.ring part).trail }
         requires unused { IsEmptied pieces × (sent pieces ≡ []) }
         requires looked { durable core.past ≤ reader.seen }
-        requires shown { IsShown N.ring.board N.past board core.past }
-        requires earlier { AreEarlier N.ring.seen seen core.past }
-        requires rings { map ring_at consumers.items ≡ N.ring.rings }
+        requires shown { IsShown (N.ring part).board N.past board core.past }
+        requires earlier { AreEarlier (N.ring part).seen seen core.past }
+        requires rings { map ring_at consumers.items ≡ (N.ring part).rings }
         requires empty { All (λ ring. received ring ≡ []) consumers.items }
-        requires count { length N.ring.rings ≡ N.parameters.clients }
+        requires count { length (N.ring part).rings ≡ N.parameters.clients }
         requires begins { core.past ≡ N.past }
+        ensures part { result.part ≡ part }
         ensures core { result.core ≡ core }
         ensures rings { result.rings ≡ map ring_view consumers.items }
     {
         LockedPool {
+            part,
             core,
             reader,
             consumers,
@@ -105,6 +111,12 @@ impl<N: PoolName, K: ListKeeper> LockedPool<N, K> {
             seen,
             of: PhantomData,
         }
+    }
+
+    pub(crate) fn part(&self) -> u8
+        ensures { result ≡ self.now.part }
+    {
+        self.part
     }
 
     pub(crate) fn ends(&self) -> u64
@@ -125,6 +137,8 @@ impl<N: PoolName, K: ListKeeper> LockedPool<N, K> {
     /// list on its line. Each of the passes is out, since the list gave it back while it held it. So the trail's entries
     /// of the client are the session's list, and its ring is empty.
     pub(crate) fn drain_own(&mut self, session: &mut Session<N, K>)
+        requires part { N.ring session.old.part ≡ N.ring self.old.part }
+        ensures part { self.new.part ≡ self.old.part }
         ensures takes { TakesBack session.old.client self.old.core self.new.core }
         ensures seen { self.new.seen ≡ self.old.seen }
         ensures ends { self.new.ends ≡ self.old.ends }
@@ -146,6 +160,8 @@ impl<N: PoolName, K: ListKeeper> LockedPool<N, K> {
     /// Ends a session and returns its book. The passes that it posted have gone back then, and the trail's entries of
     /// the client are its list.
     pub(crate) fn end_session(&mut self, mut session: Session<N, K>) -> Book<K>
+        requires part { N.ring session.part ≡ N.ring self.old.part }
+        ensures part { self.new.part ≡ self.old.part }
         ensures takes { TakesBack session.client self.old.core self.new.core }
         ensures client { result.client ≡ session.client }
         ensures before { result.before ≡ session.before }
@@ -155,6 +171,7 @@ impl<N: PoolName, K: ListKeeper> LockedPool<N, K> {
     {
         self.drain_own(&mut session);
         let Session {
+            part: _,
             book,
             producer: _,
             line: _,
@@ -167,14 +184,16 @@ impl<N: PoolName, K: ListKeeper> LockedPool<N, K> {
 
     /// Returns the core and its reader. The taker has all that the core handed out.
     pub(crate) fn into_parts(self, taker: Taker<N>) -> (PoolCore<K>, Reader)
+        requires part { N.ring taker.part ≡ N.ring self.part }
         ensures before { result.0.before ≡ taker.past }
-        ensures reader { result.1.mark ≡ N.mark }
+        ensures reader { result.1.mark ≡ N.mark self.part }
         ensures parameters { result.0.parameters ≡ N.parameters }
         ensures seen { durable result.0.past ≤ result.1.seen }
         ensures core { result.0 ≡ self.core }
         ensures goes_on { GoesOnFrom N.past result.0.past }
     {
         let LockedPool {
+            part: _,
             core,
             reader,
             consumers: _,
@@ -184,7 +203,11 @@ impl<N: PoolName, K: ListKeeper> LockedPool<N, K> {
             seen: _,
             of: _,
         } = self;
-        let Taker { mut taken, of: _ } = taker;
+        let Taker {
+            part: _,
+            mut taken,
+            of: _,
+        } = taker;
         join_ends(&mut pieces, &mut taken);
         (core, reader)
     }

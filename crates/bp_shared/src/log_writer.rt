@@ -1,7 +1,7 @@
 //! `LogWriter`: raises a pool's mark, up to which its log is durable.
 ghost use Rattle.std.specs.Prelude.{◌≡◌};
 
-use crate::names::PoolName;
+use crate::names::{One, PoolName};
 use crate::pool::SharedPool;
 use bp_keeper::ListKeeper;
 use bp_mark::LogEnd;
@@ -51,7 +51,7 @@ impl<N: PoolName> LogWriter<N> {
     ///
     /// Call it only once the log is durable so far, for the pool then lets pages of that LSN go out. After a start call
     /// it with the LSN of the log's last durable record.
-    pub fn raise<K: ListKeeper>(&mut self, pool: &SharedPool<N, K>, lsn: Lsn)
+    pub fn raise<K: ListKeeper>(&mut self, pool: &SharedPool<One<N>, K>, lsn: Lsn)
         ensures { self.new ≡ max self.old lsn }
     {
         self.end.raise(pool.mark(), lsn);

@@ -4,14 +4,14 @@ ghost use Rattle.bp_page.specs.declared.refusals.Refusal.TheVariants as Refusal;
 ghost use Rattle.rtrb.specs.Ring.{sent, received};
 ghost use Rattle.bp_session_log.specs.Rings.{ring_of, ring_at};
 ghost use Rattle.bp_shared.specs.Posting.{IsUnused};
-ghost use Rattle.bp_shared.specs.Sessions.{new_sessions};
+ghost use Rattle.bp_shared.specs.Sessions.{new_sessions_of};
 ghost use Rattle.bp_shared.specs.Taking.{IsEmptied};
 ghost use Rattle.bp_shared.specs.Telling.{IsBlank};
 
 use crate::closed_pool::ClosedPool;
 use crate::locked_pool::LockedPool;
 use crate::locking::locked;
-use crate::names::PoolName;
+use crate::names::{One, PartNames, PoolName};
 use crate::session::{Past, Session};
 use crate::taker::Taker;
 use crate::trail_ring::TrailRing;
@@ -37,8 +37,9 @@ mod source;
 
 /// Makes a session for each client, with the next line of both boards and the posting end of its ring, in order. Each
 /// sees the trail of the core.
-fn new_clients<N: PoolName, K: ListKeeper>(
+fn new_clients<N: PartNames, K: ListKeeper>(
     alloc: Global,
+    part: u8,
     core: &PoolCore<K>,
     producers: Vec<Producer<PassNote>>,
     board: &mut Board,
@@ -46,18 +47,18 @@ fn new_clients<N: PoolName, K: ListKeeper>(
 ) -> Result<Vec<Session<N, K>>, Refusal>
     requires parameters { core.now.parameters ≡ N.parameters }
     requires past { core.now.past ≡ N.past }
-    requires rings { map ring_of producers.items ≡ N.ring.rings }
+    requires rings { map ring_of producers.items ≡ (N.ring part).rings }
     requires unused { All IsUnused producers.items }
     requires count { length producers.items ≡ N.parameters.clients }
-    requires board { board.old.name ≡ N.ring.board }
-    requires seen { seen.old.name ≡ N.ring.seen }
+    requires board { board.old.name ≡ (N.ring part).board }
+    requires seen { seen.old.name ≡ (N.ring part).seen }
     requires empty { (board.old.lists ≡ []) × (seen.old.lists ≡ []) }
-    ensures board { board.new.name ≡ N.ring.board }
+    ensures board { board.new.name ≡ (N.ring part).board }
     ensures blank { OnOk result (IsBlank board.new.lists) }
-    ensures seen { seen.new.name ≡ N.ring.seen }
+    ensures seen { seen.new.name ≡ (N.ring part).seen }
     ensures shown { OnOk result (All (λ list. list ≡ N.past) seen.new.lists) }
     ensures sessions { IfOk result (λ made.
-        made.items ≡ new_sessions N.past N.parameters.clients) }
+        made.items ≡ new_sessions_of part N.past N.parameters.clients) }
     ensures refused { OnErr result (result ≡ Err Refusal.OutOfMemory) }
 {
     let clients = core.clients();
@@ -69,7 +70,7 @@ fn new_clients<N: PoolName, K: ListKeeper>(
         };
         let (line, mut saw) = (board.line(), seen.line());
         seen.write::<PoolCore<K>, Past>(&mut saw, core);
-        let session = Session::new(alloc, core.geometry(), client, producer, line, saw);
+        let session = Session::new(alloc, part, core.geometry(), client, producer, line, saw);
         sessions.push_reserved(session);
     }
     Ok(sessions)
@@ -77,38 +78,41 @@ fn new_clients<N: PoolName, K: ListKeeper>(
 
 /// The sessions of a pool, and what its rings have besides: what goes behind the lock, and the end at which pieces of
 /// the trail come out.
-struct Opened<N: PoolName, K: ListKeeper> {
+struct Opened<N: PartNames, K: ListKeeper> {
+    part: u8,
     sessions: Vec<Session<N, K>>,
     consumers: Vec<Consumer<PassNote>>,
     pieces: Producer<Vec<Entry>>,
     taken: Consumer<Vec<Entry>>,
     board: Board,
     seen: Board,
-    ghost rings: { map ring_at consumers.items ≡ N.ring.rings },
-    ghost count: { length N.ring.rings ≡ N.parameters.clients },
+    ghost rings: { map ring_at consumers.items ≡ (N.ring part).rings },
+    ghost count: { length (N.ring part).rings ≡ N.parameters.clients },
     ghost empty: { All (λ ring. received ring ≡ []) consumers.items },
-    ghost trail: { ring_of pieces ≡ N.ring.trail },
+    ghost trail: { ring_of pieces ≡ (N.ring part).trail },
     ghost unused: { IsEmptied pieces × (sent pieces ≡ []) },
-    ghost taker: { (ring_at taken ≡ N.ring.trail) × (received taken ≡ []) },
-    ghost board_is: { (board.name ≡ N.ring.board) × IsBlank board.lists },
-    ghost seen_is: { (seen.name ≡ N.ring.seen) × All (λ list. list ≡ N.past) seen.lists },
+    ghost taker: { (ring_at taken ≡ (N.ring part).trail) × (received taken ≡ []) },
+    ghost board_is: { (board.name ≡ (N.ring part).board) × IsBlank board.lists },
+    ghost seen_is: { (seen.name ≡ (N.ring part).seen) × All (λ list. list ≡ N.past) seen.lists },
 }
 
 /// Makes the sessions of a pool over a core, by its rings. `BadClient` where the rings are not made for as many clients
 /// as the core has, else `OutOfMemory`; the rings are dropped then.
-fn open<N: PoolName, K: ListKeeper>(
+fn open<N: PartNames, K: ListKeeper>(
     alloc: Global,
+    part: u8,
     core: &PoolCore<K>,
     ring: TrailRing,
 ) -> Result<Opened<N, K>, Refusal>
     requires parameters { core.now.parameters ≡ N.parameters }
     requires past { core.now.past ≡ N.past }
-    requires ring { ring ≡ N.ring }
+    requires ring { ring ≡ N.ring part }
+    ensures part { IfOk result (λ opened. opened.part ≡ part) }
     ensures sessions { IfOk result (λ opened. opened.sessions.items
-        ≡ new_sessions N.past N.parameters.clients) }
-    ensures clients { length N.ring.rings ≢ N.parameters.clients
+        ≡ new_sessions_of part N.past N.parameters.clients) }
+    ensures clients { length (N.ring part).rings ≢ N.parameters.clients
         → result ≡ Err Refusal.BadClient }
-    ensures refused { length N.ring.rings ≡ N.parameters.clients
+    ensures refused { length (N.ring part).rings ≡ N.parameters.clients
         → OnErr result (result ≡ Err Refusal.OutOfMemory) }
 {
     let clients = core.clients();
@@ -123,8 +127,9 @@ fn open<N: PoolName, K: ListKeeper>(
         producers,
         consumers,
     } = ring;
-    let sessions = new_clients(alloc, core, producers, &mut board, &mut seen)?;
+    let sessions = new_clients(alloc, part, core, producers, &mut board, &mut seen)?;
     Ok(Opened {
+        part,
         sessions,
         consumers,
         pieces,
@@ -140,8 +145,10 @@ fn open<N: PoolName, K: ListKeeper>(
 ///
 /// A call takes a session of this pool, and a page and a port of the core's geometry.
 #[derive(Drop)]
-pub struct SharedPool<N: PoolName, K: ListKeeper = RecordingKeeper> {
+pub struct SharedPool<N: PartNames, K: ListKeeper = RecordingKeeper> {
     alloc: Global,
+    /// Its number, where several stand side by side.
+    part: u8,
     mark: Mark,
     state: Mutex<LockedPool<N, K>>,
     /// Where sessions wait for the end of device work.
@@ -152,23 +159,21 @@ pub struct SharedPool<N: PoolName, K: ListKeeper = RecordingKeeper> {
     room: usize,
 }
 
-impl<N: PoolName, K: ListKeeper> Model for SharedPool<N, K> {
-    ghost use Rattle.std.specs.Prelude.{◌≡◌};
+impl<N: PartNames, K: ListKeeper> Model for SharedPool<N, K> {
+    ghost use Rattle.std.specs.Prelude.{◌≡◌, ℕ};
 
-    ghost Value = { Unit {0} };
+    ghost Value = { ℕ };
 
-    ghost view = { λ p. tt };
+    ghost view = { λ p. p.part };
 
-    ghost invariant = { λ p. (p.mark ≡ N.mark) × (p.room ≡ N.parameters.room) };
+    ghost invariant = { λ p. (p.mark ≡ N.mark p.part) × (p.room ≡ N.parameters.room) };
 }
 
-impl<N: PoolName, K: ListKeeper> SharedPool<N, K> {
+impl<N: PoolName, K: ListKeeper> SharedPool<One<N>, K> {
     ghost use Rattle.std.specs.Prelude.{◌≡◌, ◌≢◌, ◌≤◌, length, IfOk, IfErr, OnErr};
-    ghost use Rattle.std.specs.Sync.Mutex.{mutex_guard_value};
     ghost use Rattle.bp_page.specs.declared.refusals.Refusal.TheVariants as Refusal;
     ghost use Rattle.bp_trail.specs.Clock.{durable};
-    ghost use Rattle.bp_shared.specs.Locked.{Enters};
-    ghost use Rattle.bp_shared.specs.Sessions.{new_sessions, IsRoomy, UnfixSaid};
+    ghost use Rattle.bp_shared.specs.Sessions.{new_sessions};
     ghost use Rattle.bp_shared.specs.Telling.{GoesOnFrom};
 
     /// Makes a pool over a core, one session for each client, in order, and the taker of its trail. Each session has
@@ -183,7 +188,14 @@ impl<N: PoolName, K: ListKeeper> SharedPool<N, K> {
         mark: Mark,
         reader: Reader,
         ring: TrailRing,
-    ) -> Result<(SharedPool<N, K>, Vec<Session<N, K>>, Taker<N>), Refusal>
+    ) -> Result<
+        (
+            SharedPool<One<N>, K>,
+            Vec<Session<One<N>, K>>,
+            Taker<One<N>>,
+        ),
+        Refusal,
+    >
         requires mark { mark ≡ N.mark }
         requires reader { reader.mark ≡ N.mark }
         requires parameters { core.parameters ≡ N.parameters }
@@ -200,7 +212,82 @@ impl<N: PoolName, K: ListKeeper> SharedPool<N, K> {
         ensures refused { length N.ring.rings ≡ N.parameters.clients
             → OnErr result (result ≡ Err Refusal.OutOfMemory) }
     {
-        let opened = match open(alloc, &core, ring) {
+        SharedPool::new_part(alloc, 0, core, mark, reader, ring)
+    }
+
+    /// Ends the sharing: drains the rings once more. The sessions may be ended after it, in any order, and then the
+    /// pool. It neither waits nor takes memory. A pass that no ring has by then stays out.
+    pub fn close(self) -> ClosedPool<One<N>, K> {
+        let SharedPool {
+            alloc: _,
+            part: _,
+            mark,
+            state,
+            ended: _,
+            posted: _,
+            room: _,
+        } = self;
+        let mut state = state.into_inner();
+        state.drain(ALL);
+        ClosedPool::new(mark, state)
+    }
+
+    /// Ends the pool, and with it what binds the lists of its sessions to its trail: closes it, and returns the core,
+    /// the mark and its reader. It neither waits nor takes memory. The core's trail goes on from all that the taker was
+    /// handed.
+    pub fn finish(self, taker: Taker<One<N>>) -> (PoolCore<K>, Mark, Reader)
+        ensures goes_on { GoesOnFrom N.past result.0.past }
+        ensures before { result.0.before ≡ taker.past }
+        ensures mark { result.1 ≡ N.mark }
+        ensures reader { result.2.mark ≡ N.mark }
+        ensures parameters { result.0.parameters ≡ N.parameters }
+        ensures seen { durable result.0.past ≤ result.2.seen }
+    {
+        self.close().into_core(taker)
+    }
+}
+
+impl<N: PartNames, K: ListKeeper> SharedPool<N, K> {
+    ghost use Rattle.std.specs.Prelude.{◌≡◌, ◌≢◌, ◌≤◌, length, IfOk, IfErr, OnErr};
+    ghost use Rattle.std.specs.Sync.Mutex.{mutex_guard_value};
+    ghost use Rattle.bp_page.specs.declared.refusals.Refusal.TheVariants as Refusal;
+    ghost use Rattle.bp_trail.specs.Clock.{durable};
+    ghost use Rattle.bp_shared.specs.Locked.{Enters};
+    ghost use Rattle.bp_shared.specs.Sessions.{new_sessions_of, IsRoomy, UnfixSaid};
+    ghost use Rattle.bp_shared.specs.Telling.{GoesOnFrom};
+
+    /// Makes the pool of this number over a core, as `new` does, one of several side by side. Each is told from the
+    /// others by its number alone: give each another.
+    ///
+    /// `BadClient` where the rings are not made for as many clients as the core has; else `OutOfMemory`. All that was
+    /// given is dropped then.
+    pub fn new_part(
+        alloc: Global,
+        part: u8,
+        core: PoolCore<K>,
+        mark: Mark,
+        reader: Reader,
+        ring: TrailRing,
+    ) -> Result<(SharedPool<N, K>, Vec<Session<N, K>>, Taker<N>), Refusal>
+        requires mark { mark ≡ N.mark part }
+        requires reader { reader.mark ≡ N.mark part }
+        requires parameters { core.parameters ≡ N.parameters }
+        requires before { core.before ≡ N.before }
+        requires past { core.past ≡ N.past }
+        requires ring { ring ≡ N.ring part }
+        requires seen { durable core.past ≤ reader.seen }
+        ensures part { IfOk result (λ made. made.0 ≡ part) }
+        ensures taker_part { IfOk result (λ made. made.2.part ≡ part) }
+        ensures taker { IfOk result (λ made. made.2.past ≡ N.before) }
+        ensures pieces { IfOk result (λ made. made.2.pieces ≡ 0) }
+        ensures sessions { IfOk result (λ made.
+            made.1.items ≡ new_sessions_of part N.past N.parameters.clients) }
+        ensures clients { length (N.ring part).rings ≢ N.parameters.clients
+            → result ≡ Err Refusal.BadClient }
+        ensures refused { length (N.ring part).rings ≡ N.parameters.clients
+            → OnErr result (result ≡ Err Refusal.OutOfMemory) }
+    {
+        let opened = match open(alloc, part, &core, ring) {
             Ok(opened) => opened,
             // Dropped by a call, since a drop at the end of the scope is proved in this function, field by field.
             Err(refusal) => {
@@ -209,6 +296,7 @@ impl<N: PoolName, K: ListKeeper> SharedPool<N, K> {
             }
         };
         let Opened {
+            part: _,
             sessions,
             consumers,
             pieces,
@@ -218,21 +306,22 @@ impl<N: PoolName, K: ListKeeper> SharedPool<N, K> {
         } = opened;
         let room = core.room();
         let posted = Posted::nothing(core.clients());
-        let state = LockedPool::new(core, reader, consumers, pieces, board, seen);
+        let state = LockedPool::new(part, core, reader, consumers, pieces, board, seen);
         let pool = SharedPool {
             alloc,
+            part,
             mark,
             room,
             state: Mutex::new(state),
             ended: Condvar::new(),
             posted,
         };
-        Ok((pool, sessions, Taker::new(taken)))
+        Ok((pool, sessions, Taker::new(part, taken)))
     }
 
     /// Lends the pool's mark, which the log writer raises. It neither waits nor takes memory.
     pub fn mark(&self) -> &Mark
-        ensures { result.now ≡ N.mark }
+        ensures { result.now ≡ N.mark self.now }
     {
         &self.mark
     }
@@ -299,11 +388,31 @@ impl<N: PoolName, K: ListKeeper> SharedPool<N, K> {
         ensures session { session.new ≡ record session.old { free = 32 } }
         ensures free { session.old.free ≤ 32 }
         ensures entered { Enters N.past session.new (mutex_guard_value result) }
+        ensures part { (mutex_guard_value result).part ≡ self.now }
     {
-        let mut state = locked(rt, &self.state);
+        let mut state = self.of_part(rt, session.part, locked(rt, &self.state));
         let asked = self.posted.take();
         state.drain(asked);
         state.drain_own(session);
+        state
+    }
+
+    /// Returns what is behind the lock, where that and the one who asks are of this pool. Else it waits for ever, so no
+    /// session of another part ever gets in.
+    fn of_part<'b, R: Wait>(
+        &self,
+        rt: &R,
+        part: u8,
+        state: MutexGuard<'b, LockedPool<N, K>>,
+    ) -> MutexGuard<'b, LockedPool<N, K>>
+        ensures own { (mutex_guard_value result).part ≡ self.now }
+        ensures asked { (mutex_guard_value result).part ≡ part }
+        ensures same { mutex_guard_value result ≡ mutex_guard_value state.entry }
+    {
+        if state.part() != self.part || part != self.part {
+            for _ in rt.forever() {}
+            unreachable!()
+        }
         state
     }
 
@@ -323,11 +432,12 @@ impl<N: PoolName, K: ListKeeper> SharedPool<N, K> {
         }
     }
 
-    /// Ends the sharing: drains the rings once more. The sessions may be ended after it, in any order, and then the
-    /// pool. It neither waits nor takes memory. A pass that no ring has by then stays out.
-    pub fn close(self) -> ClosedPool<N, K> {
+    /// Ends the sharing of one of several pools side by side, as `close` does of one that stands alone. What is behind
+    /// the lock has the pool's number; where it had another, this would wait for ever.
+    pub fn close_part<R: Wait>(self, rt: &R) -> ClosedPool<N, K> {
         let SharedPool {
             alloc: _,
+            part,
             mark,
             state,
             ended: _,
@@ -335,21 +445,11 @@ impl<N: PoolName, K: ListKeeper> SharedPool<N, K> {
             room: _,
         } = self;
         let mut state = state.into_inner();
+        if state.part() != part {
+            for _ in rt.forever() {}
+            unreachable!()
+        }
         state.drain(ALL);
         ClosedPool::new(mark, state)
-    }
-
-    /// Ends the pool, and with it what binds the lists of its sessions to its trail: closes it, and returns the core,
-    /// the mark and its reader. It neither waits nor takes memory. The core's trail goes on from all that the taker was
-    /// handed.
-    pub fn finish(self, taker: Taker<N>) -> (PoolCore<K>, Mark, Reader)
-        ensures goes_on { GoesOnFrom N.past result.0.past }
-        ensures before { result.0.before ≡ taker.past }
-        ensures mark { result.1 ≡ N.mark }
-        ensures reader { result.2.mark ≡ N.mark }
-        ensures parameters { result.0.parameters ≡ N.parameters }
-        ensures seen { durable result.0.past ≤ result.2.seen }
-    {
-        self.close().into_core(taker)
     }
 }

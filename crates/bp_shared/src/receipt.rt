@@ -1,5 +1,5 @@
 //! `Receipt`: a part of a pool's trail that was seen, carried from one session's client to another.
-use crate::names::PoolName;
+use crate::names::PartNames;
 use bp_session_log::Line;
 use std::marker::{Model, PhantomData};
 
@@ -9,13 +9,15 @@ use std::marker::{Model, PhantomData};
 /// Whoever wants that another session's questions see at least so much keeps it where both come, as in the mutex of the
 /// log: [`SharedPool::show`](crate::SharedPool::show) has it see more.
 #[derive(Drop)]
-pub struct Receipt<N: PoolName> {
+pub struct Receipt<N: PartNames> {
+    /// The number of the pool.
+    pub(crate) part: u8,
     /// A line on the board of what was seen of the trail.
     pub(crate) line: Line,
     pub(crate) of: PhantomData<N>,
 }
 
-impl<N: PoolName> Model for Receipt<N> {
+impl<N: PartNames> Model for Receipt<N> {
     ghost use Rattle.std.specs.Prelude.{◌≡◌};
     ghost use Rattle.bp_trail.specs.Trail.{Trail};
 
@@ -23,5 +25,5 @@ impl<N: PoolName> Model for Receipt<N> {
 
     ghost view = { λ r. r.line.list };
 
-    ghost invariant = { λ r. r.line.name ≡ N.ring.seen };
+    ghost invariant = { λ r. r.line.name ≡ (N.ring r.part).seen };
 }

@@ -1,7 +1,7 @@
 //! `Session`: one client's end of a pool, with the client's own list of entries.
 mod list_pieces;
 
-use crate::names::PoolName;
+use crate::names::PartNames;
 use bp_core::{Pass, PassNote, PoolCore};
 use bp_keeper::{Keeper, ListKeeper, RecordingKeeper};
 use bp_page::{Geometry, Refusal};
@@ -30,7 +30,9 @@ impl<K: Keeper> Shows<PoolCore<K>> for Past {
 /// given back stands in the list where the client posted it. The list gets no other entry than those of this session's
 /// calls, and room for all that it still owes is kept, so that an end and an unfix never want memory.
 #[derive(Drop)]
-pub struct Session<N: PoolName, K: ListKeeper = RecordingKeeper> {
+pub struct Session<N: PartNames, K: ListKeeper = RecordingKeeper> {
+    /// The number of its pool.
+    pub(crate) part: u8,
     pub(crate) book: Book<K>,
     pub(crate) producer: Producer<PassNote>,
     /// The session's line on the pool's board.
@@ -40,7 +42,7 @@ pub struct Session<N: PoolName, K: ListKeeper = RecordingKeeper> {
     pub(crate) of: PhantomData<N>,
 }
 
-impl<N: PoolName, K: ListKeeper> Model for Session<N, K> {
+impl<N: PartNames, K: ListKeeper> Model for Session<N, K> {
     ghost use Rattle.std.specs.Prelude.{◌≡◌, ◌<◌, true, reverse, slice_index_or};
     ghost use Rattle.rtrb.specs.Ring.{sent, known_free, producer_capacity};
     ghost use Rattle.bp_session_log.specs.Books.{unfixes, all_held};
@@ -51,6 +53,7 @@ impl<N: PoolName, K: ListKeeper> Model for Session<N, K> {
     ghost Value = { SessionValue };
 
     ghost view = { λ s. record {
+      part = s.part;
       client = s.book.client;
       before = s.book.before;
       said = s.book.said;
@@ -67,15 +70,15 @@ impl<N: PoolName, K: ListKeeper> Model for Session<N, K> {
     ghost invariant = { λ s. (s.book.client < N.parameters.clients)
         × (s.book.size ≡ N.parameters.size)
         × (sent s.producer ≡ reverse (unfixes s.book.said))
-        × IsLineOf N.ring.board s.line s.book.client s.book.said
-        × (slice_index_or N.ring.rings s.book.client (ring_of s.producer)
+        × IsLineOf (N.ring s.part).board s.line s.book.client s.book.said
+        × (slice_index_or (N.ring s.part).rings s.book.client (ring_of s.producer)
         ≡ ring_of s.producer)
         × (all_held s.book.said ≡ true)
-        × (s.seen.name ≡ N.ring.seen)
+        × (s.seen.name ≡ (N.ring s.part).seen)
         × (producer_capacity s.producer ≡ 32) };
 }
 
-impl<N: PoolName, K: ListKeeper> Session<N, K> {
+impl<N: PartNames, K: ListKeeper> Session<N, K> {
     ghost use Rattle.std.specs.Prelude.{◌≡◌, ◌<◌, ◌≤◌, ℕ, false, [], All, OnOk, OnErr, length, slice_get, slice_index_or};
     ghost use Rattle.bp_page.specs.declared.refusals.Refusal.TheVariants as Refusal;
     ghost use Rattle.bp_session_log.specs.Rings.{ring_of};
@@ -87,6 +90,7 @@ impl<N: PoolName, K: ListKeeper> Session<N, K> {
     /// Makes a session with an empty list, that has seen the trail with which the pool is made.
     pub(crate) fn new(
         alloc: Global,
+        part: u8,
         geometry: Geometry,
         client: u8,
         producer: Producer<PassNote>,
@@ -96,10 +100,11 @@ impl<N: PoolName, K: ListKeeper> Session<N, K> {
         requires client_in { client < N.parameters.clients }
         requires size { geometry.size ≡ N.parameters.size }
         requires unused { IsUnused producer }
-        requires ring { slice_index_or N.ring.rings client (ring_of producer)
+        requires ring { slice_index_or (N.ring part).rings client (ring_of producer)
             ≡ ring_of producer }
-        requires line { IsLineOf N.ring.board line client [] }
-        requires seen { (seen.name ≡ N.ring.seen) × (seen.list ≡ N.past) }
+        requires line { IsLineOf (N.ring part).board line client [] }
+        requires seen { (seen.name ≡ (N.ring part).seen) × (seen.list ≡ N.past) }
+        ensures part { result.part ≡ part }
         ensures client { result.client ≡ client }
         ensures before { result.before ≡ [] }
         ensures said { result.said ≡ [] }
@@ -111,12 +116,20 @@ impl<N: PoolName, K: ListKeeper> Session<N, K> {
         ensures places { result.places ≡ 0 }
     {
         Session {
+            part,
             book: Book::new(alloc, geometry, client),
             producer,
             line,
             seen,
             of: PhantomData,
         }
+    }
+
+    /// Returns the number of its pool, where several stand side by side.
+    pub fn part(&self) -> u8
+        ensures { result ≡ self.now.part }
+    {
+        self.part
     }
 
     pub fn client(&self) -> u8
@@ -171,6 +184,7 @@ impl<N: PoolName, K: ListKeeper> Session<N, K> {
         ensures said { result.said ≡ self.said }
     {
         let Session {
+            part: _,
             book,
             producer: _,
             line: _,

@@ -5,14 +5,14 @@ ghost use Rattle.bp_shared.specs.Locked.{IsDrained};
 ghost use Rattle.bp_shared.specs.Taking.{HandsOut, ComesNext, GaveTooMany};
 
 use super::LockedPool;
-use crate::names::PoolName;
+use crate::names::PartNames;
 use crate::taker::Taker;
 use crate::trail_ring::{join_ends, pass_on};
 use bp_core::Entry;
 use bp_keeper::RecordingKeeper;
 use bp_page::Refusal;
 
-impl<N: PoolName> LockedPool<N, RecordingKeeper> {
+impl<N: PartNames> LockedPool<N, RecordingKeeper> {
     /// Hands the trail to the taker. The core goes on in the spare's memory, and takes none. `ClockFull` where more
     /// than 2^62 passes or tickets were given, which changes nothing.
     pub(crate) fn cut(
@@ -20,6 +20,7 @@ impl<N: PoolName> LockedPool<N, RecordingKeeper> {
         taker: &mut Taker<N>,
         spare: Vec<Entry>,
     ) -> Result<Vec<Entry>, Refusal>
+        requires part { taker.old.part ≡ self.old.part }
         requires drained { IsDrained self.old }
         requires room { N.parameters.room ≤ vec_capacity spare }
         ensures done { IfOk result (λ entries.

@@ -7,7 +7,7 @@ ghost use Rattle.bp_shared.specs.Locked.{Enters};
 ghost use Rattle.bp_shared.specs.Telling.{GoesOnFrom, Sees};
 
 use super::LockedPool;
-use crate::names::PoolName;
+use crate::names::PartNames;
 use crate::receipt::Receipt;
 use crate::session::{Past, Session, Told};
 use bp_core::{PoolCore, Stats};
@@ -15,8 +15,9 @@ use bp_keeper::ListKeeper;
 use bp_page::{Lsn, PageNo};
 use bp_session_log::Book;
 use std::marker::PhantomData;
+use std::sync::Wait;
 
-impl<N: PoolName, K: ListKeeper> LockedPool<N, K> {
+impl<N: PartNames, K: ListKeeper> LockedPool<N, K> {
     /// Shows the session the trail as it is.
     fn show(&mut self, session: &mut Session<N, K>)
         requires entered { Enters N.past session.old self.old }
@@ -37,13 +38,19 @@ impl<N: PoolName, K: ListKeeper> LockedPool<N, K> {
         ensures core { self.new ≡ self.old }
     {
         Receipt {
+            part: self.part,
             line: self.seen.line(),
             of: PhantomData,
         }
     }
 
-    /// Shows the session, and a receipt, the trail as it is.
-    pub(crate) fn show_both(&mut self, session: &mut Session<N, K>, receipt: &mut Receipt<N>)
+    /// Shows the session, and a receipt of this pool, the trail as it is. Waits for ever with one of another.
+    pub(crate) fn show_both<R: Wait>(
+        &mut self,
+        rt: &R,
+        session: &mut Session<N, K>,
+        receipt: &mut Receipt<N>,
+    )
         requires entered { Enters N.past session.old self.old }
         ensures sees { Sees N.parameters N.past session.old session.new }
         ensures core { self.new ≡ self.old }
@@ -52,6 +59,10 @@ impl<N: PoolName, K: ListKeeper> LockedPool<N, K> {
         ensures goes_on { GoesOnFrom receipt.old receipt.new }
     {
         self.show(session);
+        if receipt.part != self.part {
+            for _ in rt.forever() {}
+            unreachable!()
+        }
         self.seen
             .write::<PoolCore<K>, Past>(&mut receipt.line, &self.core);
     }

@@ -16,7 +16,7 @@ ghost use Rattle.bp_shared.specs.Locked.{Enters, InStep, FixStep, FlushStep};
 ghost use Rattle.bp_shared.specs.Writing.{FixBegins, FlushBegins};
 
 use super::LockedPool;
-use crate::names::PoolName;
+use crate::names::PartNames;
 use crate::session::{Past, Session, Told};
 use bp_core::{Discarded, Ended, Pass, PoolCore};
 use bp_keeper::ListKeeper;
@@ -24,7 +24,7 @@ use bp_mark::Mark;
 use bp_page::{Image, Lsn, PageNo, PortFault, Refusal};
 use bp_session_log::{Book, Fix, Flush, PendingRead, PendingWrite};
 
-impl<N: PoolName, K: ListKeeper> LockedPool<N, K> {
+impl<N: PartNames, K: ListKeeper> LockedPool<N, K> {
     /// Asks for a page, after one look at the mark.
     pub(crate) fn fix(
         &mut self,
@@ -33,7 +33,7 @@ impl<N: PoolName, K: ListKeeper> LockedPool<N, K> {
         page: PageNo,
     ) -> Result<Fix, Refusal>
         requires entered { Enters N.past session.old self.old }
-        requires mark { mark.now ≡ N.mark }
+        requires mark { mark.now ≡ N.mark self.old.part }
         requires page_in { page < N.parameters.pages }
         requires entries { 4 ≤ session.old.room }
         requires passes { 1 ≤ session.old.passes }
@@ -77,7 +77,7 @@ impl<N: PoolName, K: ListKeeper> LockedPool<N, K> {
         page: PageNo,
     ) -> Result<Flush, Refusal>
         requires entered { Enters N.past session.old self.old }
-        requires mark { mark.now ≡ N.mark }
+        requires mark { mark.now ≡ N.mark self.old.part }
         requires page_in { page < N.parameters.pages }
         requires entries { 4 ≤ session.old.room }
         requires passes { 1 ≤ session.old.passes }

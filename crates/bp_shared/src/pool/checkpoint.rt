@@ -10,7 +10,7 @@ ghost use Rattle.bp_shared.specs.Telling.{GoesOnFrom, Sees};
 
 use super::SharedPool;
 use crate::locking::locked;
-use crate::names::PoolName;
+use crate::names::PartNames;
 use crate::receipt::Receipt;
 use crate::session::Session;
 use bp_core::Stats;
@@ -18,7 +18,7 @@ use bp_keeper::ListKeeper;
 use bp_page::{Lsn, PageNo};
 use std::sync::Wait;
 
-impl<N: PoolName, K: ListKeeper> SharedPool<N, K> {
+impl<N: PartNames, K: ListKeeper> SharedPool<N, K> {
     /// Makes a receipt that has seen nothing of the trail. It takes the lock once, and no memory.
     pub fn receipt<R: Wait>(&self, rt: &R) -> Receipt<N>
         ensures { result ≡ [] }
@@ -38,7 +38,7 @@ impl<N: PoolName, K: ListKeeper> SharedPool<N, K> {
         ensures goes_on { GoesOnFrom receipt.old receipt.new }
     {
         let mut state = self.lock_and_drain(rt, session);
-        state.show_both(session, receipt);
+        state.show_both(rt, session, receipt);
     }
 
     /// Returns the first unsaved page from this number on, if there is one. It costs O(log pages) at most. Other

@@ -1,7 +1,7 @@
 //! Discards of shared pages. They ask nothing of the device.
 
 use super::SharedPool;
-use crate::names::PoolName;
+use crate::names::PartNames;
 use crate::session::Session;
 use bp_core::Discarded;
 use bp_keeper::ListKeeper;
@@ -9,7 +9,7 @@ use bp_page::{PageNo, Refusal};
 use bp_session_log::Room;
 use std::sync::Wait;
 
-impl<N: PoolName, K: ListKeeper> SharedPool<N, K> {
+impl<N: PartNames, K: ListKeeper> SharedPool<N, K> {
     ghost use Rattle.std.specs.Prelude.{◌≡◌, ◌<◌, false};
     ghost use Rattle.bp_session_log.specs.Turns.{DiscardTurn};
     ghost use Rattle.bp_shared.specs.Sessions.{DiscardSaid, IsLong};

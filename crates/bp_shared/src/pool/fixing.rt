@@ -3,7 +3,7 @@ ghost use Rattle.std.specs.Prelude.{◌≡◌, ◌<◌};
 
 use super::SharedPool;
 use super::source::{FromPort, Source, Zeros};
-use crate::names::PoolName;
+use crate::names::PartNames;
 use crate::session::Session;
 use bp_core::{Ended, Pass};
 use bp_keeper::ListKeeper;
@@ -12,7 +12,7 @@ use bp_ports::Port;
 use bp_session_log::{Fix, PendingRead, PendingWrite, Room};
 use std::sync::Wait;
 
-impl<N: PoolName, K: ListKeeper> SharedPool<N, K> {
+impl<N: PartNames, K: ListKeeper> SharedPool<N, K> {
     ghost use Rattle.std.specs.Prelude.{◌≡◌, ◌≢◌, ◌⊎◌, ◌+◌, ◌<◌, ◌≤◌, false};
     ghost use Rattle.bp_trail.specs.declared.entries.Call.TheVariants as Call;
     ghost use Rattle.bp_session_log.specs.Books.{OwesRead, OwesWrite};

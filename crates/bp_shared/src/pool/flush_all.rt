@@ -3,14 +3,14 @@ ghost use Rattle.std.specs.Prelude.{◌≡◌};
 ghost use Rattle.bp_page.specs.declared.refusals.Refusal.TheVariants as Refusal;
 
 use super::SharedPool;
-use crate::names::PoolName;
+use crate::names::PartNames;
 use crate::session::Session;
 use bp_core::NotFlushed;
 use bp_keeper::ListKeeper;
 use bp_ports::Port;
 use std::sync::Wait;
 
-impl<N: PoolName, K: ListKeeper> SharedPool<N, K> {
+impl<N: PartNames, K: ListKeeper> SharedPool<N, K> {
     ghost use Rattle.std.specs.Prelude.{◌≡◌, ◌≢◌, ◌⊎◌, false, IfErr};
     ghost use Rattle.bp_trail.specs.declared.entries.Call.TheVariants as Call;
     ghost use Rattle.bp_shared.specs.FlushAll.{FlushAllSaid};

@@ -1,7 +1,7 @@
 //! Flushes of shared pages, with their device work.
 
 use super::SharedPool;
-use crate::names::PoolName;
+use crate::names::PartNames;
 use crate::session::Session;
 use bp_core::Flushed;
 use bp_keeper::ListKeeper;
@@ -10,7 +10,7 @@ use bp_ports::Port;
 use bp_session_log::{Flush, Room};
 use std::sync::Wait;
 
-impl<N: PoolName, K: ListKeeper> SharedPool<N, K> {
+impl<N: PartNames, K: ListKeeper> SharedPool<N, K> {
     ghost use Rattle.std.specs.Prelude.{◌≡◌, ◌≢◌, ◌⊎◌, ◌+◌, ◌<◌, ◌≤◌, false};
     ghost use Rattle.bp_trail.specs.declared.entries.Call.TheVariants as Call;
     ghost use Rattle.bp_session_log.specs.Turns.{FlushTurn, tickets_taken};

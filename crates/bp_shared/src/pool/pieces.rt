@@ -1,6 +1,6 @@
 //! `cut`: hands out the trail, where it is in memory.
 use super::SharedPool;
-use crate::names::PoolName;
+use crate::names::PartNames;
 use crate::taker::Taker;
 use bp_core::Entry;
 use bp_keeper::RecordingKeeper;
@@ -8,7 +8,7 @@ use bp_page::Refusal;
 use bp_session_log::draining::ALL;
 use std::sync::Wait;
 
-impl<N: PoolName> SharedPool<N, RecordingKeeper> {
+impl<N: PartNames> SharedPool<N, RecordingKeeper> {
     ghost use Rattle.std.specs.Prelude.{◌≡◌, ◌⊎◌, ◌≤◌, IfOk, OnErr, vec_capacity};
     ghost use Rattle.bp_page.specs.declared.refusals.Refusal.TheVariants as Refusal;
     ghost use Rattle.bp_shared.specs.Taking.{ComesNext, GaveTooMany};
@@ -53,7 +53,7 @@ impl<N: PoolName> SharedPool<N, RecordingKeeper> {
         empty.clear();
         empty.reserve_exact(self.room)?;
         // With no pause before it: clients at work would fill the room meanwhile.
-        let mut state = self.state.lock(rt);
+        let mut state = self.of_part(rt, taker.part, self.state.lock(rt));
         state.drain(ALL);
         state.cut(taker, empty)
     }

@@ -2,7 +2,7 @@
 ghost use Rattle.std.specs.Prelude.{◌≡◌};
 
 use super::SharedPool;
-use crate::names::PoolName;
+use crate::names::PartNames;
 use crate::session::Session;
 use bp_core::Pass;
 use bp_keeper::ListKeeper;
@@ -10,7 +10,7 @@ use bp_page::{Image, Lsn, Refusal};
 use bp_session_log::Room;
 use std::sync::Wait;
 
-impl<N: PoolName, K: ListKeeper> SharedPool<N, K> {
+impl<N: PartNames, K: ListKeeper> SharedPool<N, K> {
     ghost use Rattle.std.specs.Prelude.{◌≡◌, ◌≢◌, ◌⊎◌, ◌+◌, ◌^◌, ◌<◌, ◌≤◌, false, true, length, IfOk};
     ghost use Rattle.bp_session_log.specs.Turns.{TickSaid, PurgeSaid, ReadSaid, ReadIntoSaid, WriteSaid};
     ghost use Rattle.bp_core.specs.Outcomes.{pass_is_out};

@@ -1,11 +1,11 @@
 //! The entries of a session whose list is in memory, lent or handed out.
 use super::Session;
-use crate::names::PoolName;
+use crate::names::PartNames;
 use bp_core::Entry;
 use bp_keeper::RecordingKeeper;
 use bp_page::Refusal;
 
-impl<N: PoolName> Session<N, RecordingKeeper> {
+impl<N: PartNames> Session<N, RecordingKeeper> {
     ghost use Rattle.std.specs.Prelude.{◌≡◌, ◌+◌, ◌++◌, ◌≤◌, reverse, IsOk, IfOk, OnOk, OnErr, vec_capacity};
     ghost use Rattle.bp_page.specs.declared.refusals.Refusal.TheVariants as Refusal;
     ghost use Rattle.bp_session_log.specs.Books.{owed};

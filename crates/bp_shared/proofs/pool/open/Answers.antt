@@ -16,8 +16,8 @@ pub returns-then-len-clients : goal.returns-then-len-clients
 returns-then-len-clients g c =
     let is = c.ring.view_is ∙ c.requires.ring in
     let rings = ap (λ (r : PoolRing). r.rings) is in
-    let count : length g.N.PoolName.ring.rings ≡ length c.ring.inside.producers.items = ap length (sym rings) ∙ length-map c.ring.inside.producers.items ring_of in
-    record { sessions = tt; clients = λ not. refl; refused = λ same. absurd (c.if-len-clients.true (c.len.ensures ∙ sym (long c.ring.inside.producers) ∙ sym count ∙ same ∙ sym (c.clients-clients.ensures ∙ ap (λ (p : Parameters). p.clients) c.requires.parameters))) }
+    let count : length (g.N.PartNames.ring c.args.part).rings ≡ length c.ring.inside.producers.items = ap length (sym rings) ∙ length-map c.ring.inside.producers.items ring_of in
+    record { part = tt; sessions = tt; clients = λ not. refl; refused = λ same. absurd (c.if-len-clients.true (c.len.ensures ∙ sym (long c.ring.inside.producers) ∙ sym count ∙ same ∙ sym (c.clients-clients.ensures ∙ ap (λ (p : Parameters). p.clients) c.requires.parameters))) }
 
 pub new_clients-requires-clause-rings : goal.new_clients-requires-clause-rings
 new_clients-requires-clause-rings g c = ap (λ (r : PoolRing). r.rings) (c.ring.view_is ∙ c.requires.ring)
@@ -41,17 +41,17 @@ pub returns-in_err-sessions : goal.returns-in_err-sessions
 returns-in_err-sessions g c =
     let is = c.ring.view_is ∙ c.requires.ring in
     let rings = ap (λ (r : PoolRing). r.rings) is in
-    let count : length g.N.PoolName.ring.rings ≡ length c.ring.inside.producers.items = ap length (sym rings) ∙ length-map c.ring.inside.producers.items ring_of in
-    let all : length g.N.PoolName.ring.rings ≡ g.N.PoolName.parameters.clients = count ∙ long c.ring.inside.producers ∙ sym c.len.ensures ∙ c.if-len-clients.false ∙ (c.clients-clients.ensures ∙ ap (λ (p : Parameters). p.clients) c.requires.parameters) in
+    let count : length (g.N.PartNames.ring c.args.part).rings ≡ length c.ring.inside.producers.items = ap length (sym rings) ∙ length-map c.ring.inside.producers.items ring_of in
+    let all : length (g.N.PartNames.ring c.args.part).rings ≡ g.N.PartNames.parameters.clients = count ∙ long c.ring.inside.producers ∙ sym c.len.ensures ∙ c.if-len-clients.false ∙ (c.clients-clients.ensures ∙ ap (λ (p : Parameters). p.clients) c.requires.parameters) in
     let why = err_from_is_err_and c.from_residual.result c.from_residual.ensures.1 in
-    rw (why.1 ∙ ap Err (why.2 ∙ ap why-of c.in_err-sessions.ensures.refused)) (record { sessions = tt; clients = λ not. absurd (not all); refused = λ same. refl })
+    rw (why.1 ∙ ap Err (why.2 ∙ ap why-of c.in_err-sessions.ensures.refused)) (record { part = tt; sessions = tt; clients = λ not. absurd (not all); refused = λ same. refl })
 
 pub invariant_of-result : goal.invariant_of-result
 invariant_of-result g c =
     let is = c.ring.view_is ∙ c.requires.ring in
     let rings = ap (λ (r : PoolRing). r.rings) is in
-    let count : length g.N.PoolName.ring.rings ≡ length c.ring.inside.producers.items = ap length (sym rings) ∙ length-map c.ring.inside.producers.items ring_of in
-    let all : length g.N.PoolName.ring.rings ≡ g.N.PoolName.parameters.clients = count ∙ long c.ring.inside.producers ∙ sym c.len.ensures ∙ c.if-len-clients.false ∙ (c.clients-clients.ensures ∙ ap (λ (p : Parameters). p.clients) c.requires.parameters) in
+    let count : length (g.N.PartNames.ring c.args.part).rings ≡ length c.ring.inside.producers.items = ap length (sym rings) ∙ length-map c.ring.inside.producers.items ring_of in
+    let all : length (g.N.PartNames.ring c.args.part).rings ≡ g.N.PartNames.parameters.clients = count ∙ long c.ring.inside.producers ∙ sym c.len.ensures ∙ c.if-len-clients.false ∙ (c.clients-clients.ensures ∙ ap (λ (p : Parameters). p.clients) c.requires.parameters) in
     let made = c.in_ok-sessions.ensures in
     record {
       rings = c.ring.invariant.6.same ∙ rings;
@@ -68,6 +68,6 @@ pub returns : goal.returns
 returns g c =
     let is = c.ring.view_is ∙ c.requires.ring in
     let rings = ap (λ (r : PoolRing). r.rings) is in
-    let count : length g.N.PoolName.ring.rings ≡ length c.ring.inside.producers.items = ap length (sym rings) ∙ length-map c.ring.inside.producers.items ring_of in
-    let all : length g.N.PoolName.ring.rings ≡ g.N.PoolName.parameters.clients = count ∙ long c.ring.inside.producers ∙ sym c.len.ensures ∙ c.if-len-clients.false ∙ (c.clients-clients.ensures ∙ ap (λ (p : Parameters). p.clients) c.requires.parameters) in
-    record { sessions = c.in_ok-sessions.ensures.sessions; clients = λ not. absurd (not all); refused = λ same. tt }
+    let count : length (g.N.PartNames.ring c.args.part).rings ≡ length c.ring.inside.producers.items = ap length (sym rings) ∙ length-map c.ring.inside.producers.items ring_of in
+    let all : length (g.N.PartNames.ring c.args.part).rings ≡ g.N.PartNames.parameters.clients = count ∙ long c.ring.inside.producers ∙ sym c.len.ensures ∙ c.if-len-clients.false ∙ (c.clients-clients.ensures ∙ ap (λ (p : Parameters). p.clients) c.requires.parameters) in
+    record { part = refl; sessions = c.in_ok-sessions.ensures.sessions; clients = λ not. absurd (not all); refused = λ same. tt }

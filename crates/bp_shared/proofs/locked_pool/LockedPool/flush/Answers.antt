@@ -1,5 +1,5 @@
 -- At most one mark, one event.
-use Rattle.std.proofs.Common.{rules, refl, inl, inr, ◌∙◌, subst, arith}
+use Rattle.std.proofs.Common.{ap, rules, refl, inl, inr, ◌∙◌, subst, arith}
 use Rattle.bp_session_log.specs.declared.pending.Flush.{Flush as Flushing}
 use Rattle.bp_shared.proofs.Stepping.{step_one, step_two, look_refused, looked, marks_once, not_refused_look}
 use Rattle.bp_shared.proofs.Acting.{shows, fills}
@@ -8,6 +8,7 @@ use Rattle.bp_shared.proofs.Telling.{OneMore, adds_one, adds_both, look_one, ask
 use Rattle.bp_shared.proofs.Writing.{flush_begins}
 use Rattle.bp_shared.proofs.Turning.{flush_not_looked}
 use Rattle.bp_shared.proofs.Posting.{posted_adds}
+use Rattle.bp_shared.proofs.Belonging.{own_line}
 use Rattle.bp_shared.proofs.locked_pool.LockedPool.flush.Goals as goal
 
 pub invariant_of-self : goal.invariant_of-self
@@ -15,7 +16,7 @@ invariant_of-self g c =
     let adds = adds_one c.session.inside.book.client _ _ _ _ c.look.ensures.alike (look_one c.session.inside.book.client _ c.self.inside.core _ _ _ c.look.ensures.outcome) in (
       search rules,
       search rules,
-      shown_more _ _ c.session.inside.book.client _ _ _ _ _ _ _ _ c.self.invariant.2 c.session.invariant.3 (rw (← c.self.view_is, ← c.session.view_is) at c.requires.entered.list_is) adds c.write.ensures,
+      shown_more _ _ c.session.inside.book.client _ _ _ _ _ _ _ _ c.self.invariant.2 (own_line _ _ _ _ _ (ap g.N.PartNames.ring (rw (← c.self.view_is, ← c.session.view_is) at c.requires.entered.part)) c.session.invariant.3) (rw (← c.self.view_is, ← c.session.view_is) at c.requires.entered.list_is) adds c.write.ensures,
       posted_adds _ _ _ c.session.inside.book.client _ _ _ _ c.self.invariant.3 adds c.look.ensures.owner.unfixes_are,
       c.self.invariant.4,
       earlier_seen _ _ _ _ _ _ (earlier_adds _ _ _ _ _ _ _ c.self.invariant.5 adds) c.write-in-Err.ensures,
@@ -28,7 +29,7 @@ invariant_of-self-2 g c =
     let adds = adds_both c.session.inside.book.client _ _ _ _ _ _ looked asked in (
       search rules,
       search rules,
-      shown_more _ _ c.session.inside.book.client _ _ _ _ _ _ _ _ c.self.invariant.2 c.session.invariant.3 (rw (← c.self.view_is, ← c.session.view_is) at c.requires.entered.list_is) adds c.write-2.ensures,
+      shown_more _ _ c.session.inside.book.client _ _ _ _ _ _ _ _ c.self.invariant.2 (own_line _ _ _ _ _ (ap g.N.PartNames.ring (rw (← c.self.view_is, ← c.session.view_is) at c.requires.entered.part)) c.session.invariant.3) (rw (← c.self.view_is, ← c.session.view_is) at c.requires.entered.list_is) adds c.write-2.ensures,
       posted_adds _ _ _ c.session.inside.book.client _ _ _ _ c.self.invariant.3 adds (c.ask_flush-answer.ensures.owner.unfixes_are ∙ c.look.ensures.owner.unfixes_are),
       c.self.invariant.4,
       earlier_seen _ _ _ _ _ _ (earlier_adds _ _ _ _ _ _ _ c.self.invariant.5 adds) c.write-3.ensures,
@@ -43,7 +44,7 @@ returns-in-Err g c =
     rw (← c.self.view_is, ← c.session.view_is) (record {
       client = owner.client;
       before = owner.before;
-      acted = shows _ _ _ _ c.self.inside.core c.look.new.core c.self.invariant.0.parameters_are c.look.ensures.parameters c.keeps_the_rules.ensures.legal (rw (← c.self.view_is, ← c.session.view_is) at c.requires.entered.list_is) adds owner.client (rw (← c.session.view_is) at c.requires.entered.emptied) refl (line_earlier _ _ _ _ _ _ _ c.self.invariant.5 c.write-in-Err.ensures) c.write-in-Err.ensures.list_is;
+      acted = shows _ _ _ _ c.self.inside.core c.look.new.core c.self.invariant.0.parameters_are c.look.ensures.parameters c.keeps_the_rules.ensures.legal (rw (← c.self.view_is, ← c.session.view_is) at c.requires.entered.list_is) adds owner.client (rw (← c.session.view_is) at c.requires.entered.emptied) refl (line_earlier _ _ _ _ _ _ _ c.self.invariant.5 c.write-in-Err.ensures) c.write-in-Err.ensures.list_is refl;
       ends = refl;
       passes = omega (arith, c.look.ensures.passes);
       places = omega (arith, c.look.ensures.places);
@@ -66,7 +67,7 @@ returns g c =
     rw (← c.self.view_is, ← c.session.view_is) (record {
       client = done.owner.client ∙ owner.client;
       before = done.owner.before ∙ owner.before;
-      acted = shows _ _ _ _ c.self.inside.core c.ask_flush-answer.new.core c.self.invariant.0.parameters_are (done.parameters ∙ c.look.ensures.parameters) c.keeps_the_rules-2.ensures.legal (rw (← c.self.view_is, ← c.session.view_is) at c.requires.entered.list_is) adds (done.owner.client ∙ owner.client) (rw (← c.session.view_is) at c.requires.entered.emptied) refl (line_earlier _ _ _ _ _ _ _ c.self.invariant.5 c.write-3.ensures) c.write-3.ensures.list_is;
+      acted = shows _ _ _ _ c.self.inside.core c.ask_flush-answer.new.core c.self.invariant.0.parameters_are (done.parameters ∙ c.look.ensures.parameters) c.keeps_the_rules-2.ensures.legal (rw (← c.self.view_is, ← c.session.view_is) at c.requires.entered.list_is) adds (done.owner.client ∙ owner.client) (rw (← c.session.view_is) at c.requires.entered.emptied) refl (line_earlier _ _ _ _ _ _ _ c.self.invariant.5 c.write-3.ensures) c.write-3.ensures.list_is refl;
       ends = refl;
       passes = omega (arith, c.look.ensures.passes, done.passes);
       places = omega (arith, c.look.ensures.places, done.places);

@@ -19,7 +19,7 @@ returns-in_err-reserve g c =
       keeps = record {
         client = same.client;
         before = same.before;
-        acts = unasked _ _ _ _ _ (is.1 ∙ ap Err (is.2 ∙ memory)) (record { client = same.client; said = same.said; seen = refl; free = refl });
+        acts = unasked _ _ _ _ _ (is.1 ∙ ap Err (is.2 ∙ memory)) (record { part = refl; client = same.client; said = same.said; seen = refl; free = refl });
         roomy = λ had. (omega (arith, refused.keeps_passes, had.0), omega (arith, refused.keeps_places, had.1));
       };
       room = λ full. absurd (let no = sym (is.1 ∙ ap Err (is.2 ∙ memory)) ∙ full in cc);
@@ -41,7 +41,7 @@ returns g c =
       keeps = record {
         client = done.client ∙ client;
         before = done.before ∙ ap (λ (s : SessionValue). s.before) entered.session ∙ same.before;
-        acts = acted _ _ _ _ _ (begun _ _ _ _ _ entered.free (ap (λ (s : SessionValue). s.seen) entered.session) done.acted);
+        acts = acted _ _ _ _ _ (begun _ _ _ _ _ entered.free (ap (λ (s : SessionValue). s.seen) entered.session) (ap (λ (s : SessionValue). s.part) entered.session) done.acted);
         roomy = λ had. (omega (arith, grows.keeps_passes, passes, done.passes, had.0), omega (arith, grows.keeps_places, places, done.places, had.1));
       };
       room = done.room;

@@ -23,7 +23,7 @@ returns-in_err-reserve g c =
     rw (← c.session.view_is) (record {
       client = same.client;
       before = same.before;
-      acts = unasked _ _ _ _ _ why_is (record { client = same.client; said = same.said; seen = refl; free = refl });
+      acts = unasked _ _ _ _ _ why_is (record { part = refl; client = same.client; said = same.said; seen = refl; free = refl });
       passes = omega (arith, refused.keeps_passes);
       places = omega (arith, refused.keeps_places);
       had = λ not. absurd (not why_is);
@@ -48,7 +48,7 @@ returns g c =
     rw (← c.session.view_is) (record {
       client = done.client ∙ client;
       before = done.before ∙ ap (λ (s : SessionValue). s.before) entered.session ∙ same.before;
-      acts = acted _ _ _ _ _ (begun _ _ _ _ _ entered.free (ap (λ (s : SessionValue). s.seen) entered.session) done.acted);
+      acts = acted _ _ _ _ _ (begun _ _ _ _ _ entered.free (ap (λ (s : SessionValue). s.seen) entered.session) (ap (λ (s : SessionValue). s.part) entered.session) done.acted);
       passes = omega (arith, grows.keeps_passes, passes, done.passes);
       places = omega (arith, grows.keeps_places, places, done.places);
       had = λ not. (omega (arith, most, grows.passes, passes, done.passes), omega (arith, images, grows.places, places, done.places));

@@ -10,7 +10,7 @@ invariant-loop g l =
     record {
       client : l.session.client ≡ l.initial.session.client;
       before : l.session.before ≡ l.initial.session.before;
-      acts : MayAct g.N.PoolName.parameters g.N.PoolName.past l.initial.session l.session;
+      acts : MayAct g.N.PartNames.parameters g.N.PartNames.past l.initial.session l.session;
       roomy : IsRoomy l.initial.session → IsRoomy l.session;
       waits : DiscardWaits l.initial.session.client l.page l.initial.session.said l.session.said;
     }

@@ -11,7 +11,7 @@ invariant-loop g l =
     record {
       client : l.session.client ≡ l.initial.session.client;
       before : l.session.before ≡ l.initial.session.before;
-      acts : MayAct g.N.PoolName.parameters g.N.PoolName.past l.initial.session l.session;
+      acts : MayAct g.N.PartNames.parameters g.N.PartNames.past l.initial.session l.session;
       passes : l.initial.session.passes ≤ l.session.passes;
       places : l.initial.session.places ≤ l.session.places;
       port : g.P.Port.geometry_of l.port ≡ g.P.Port.geometry_of l.initial.port;

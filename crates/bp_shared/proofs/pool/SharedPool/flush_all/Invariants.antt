@@ -11,12 +11,12 @@ invariant-loop-page g l =
     record {
       client : l.session.client ≡ l.initial.session.client;
       before : l.session.before ≡ l.initial.session.before;
-      acts : MayAct g.N.PoolName.parameters g.N.PoolName.past l.initial.session l.session;
+      acts : MayAct g.N.PartNames.parameters g.N.PartNames.past l.initial.session l.session;
       roomy : IsRoomy l.initial.session → IsRoomy l.session;
       port : g.P.Port.geometry_of l.port ≡ g.P.Port.geometry_of l.initial.port;
-      flushed : FlushesEach (record { parameters = g.N.PoolName.parameters; start = g.N.PoolName.past }) l.initial.session l.from l.session;
+      flushed : FlushesEach (record { parameters = g.N.PartNames.parameters; start = g.N.PartNames.past }) l.initial.session l.from l.session;
       work : DoesWorkSaid g.P.Port.read_gives (WithLsnSeen l.initial.session l.session g.P.Port.write_gives) l.initial.session.said l.session.said l.initial.port l.port;
     }
 
 abbrev pub decreases-loop-page : goal.decreases-loop-page
-decreases-loop-page g l = g.N.PoolName.parameters.pages - l.from
+decreases-loop-page g l = g.N.PartNames.parameters.pages - l.from

@@ -19,11 +19,11 @@ returns-in_err-reserve g c =
       keeps = record {
         client = refused.same.client;
         before = refused.same.before;
-        acts = unasked _ _ _ _ _ why (record { client = refused.same.client; said = refused.same.said; seen = refl; free = refl });
+        acts = unasked _ _ _ _ _ why (record { part = refl; client = refused.same.client; said = refused.same.said; seen = refl; free = refl });
         roomy = λ had. (omega (arith, refused.keeps_passes, had.0), omega (arith, refused.keeps_places, had.1));
       };
       room = λ full. absurd (let no = sym why ∙ full in cc);
-      size = subst (λ r. IfOk r (λ image. length image ≡ g.N.PoolName.parameters.size)) (sym why) tt;
+      size = subst (λ r. IfOk r (λ image. length image ≡ g.N.PartNames.parameters.size)) (sym why) tt;
       stranger = λ not. absurd (not own);
       unknown = λ is. absurd (let no = sym why ∙ is in cc);
       memory = λ silent roomy no. inl (too_long _ _ refused.same.said (λ short. false≢true (refused.memory silent short (omega arith) (omega (arith, roomy.1)))));
@@ -45,7 +45,7 @@ returns g c =
       keeps = record {
         client = done.client ∙ client;
         before = done.before ∙ ap (λ (s : SessionValue). s.before) entered.session ∙ same.before;
-        acts = acted _ _ _ _ _ (begun _ _ _ _ _ entered.free (ap (λ (s : SessionValue). s.seen) entered.session) done.acted);
+        acts = acted _ _ _ _ _ (begun _ _ _ _ _ entered.free (ap (λ (s : SessionValue). s.seen) entered.session) (ap (λ (s : SessionValue). s.part) entered.session) done.acted);
         roomy = λ had. (omega (arith, grows.keeps_passes, passes, done.passes, had.0), omega (arith, grows.keeps_places, places, done.places, had.1));
       };
       room = done.room;

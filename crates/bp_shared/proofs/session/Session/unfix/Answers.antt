@@ -9,7 +9,7 @@ use Rattle.bp_shared.proofs.session.Session.unfix.Goals as goal
 pub invariant_of-self-2 : goal.invariant_of-self-2
 invariant_of-self-2 g c =
     let e = c.else-cached_slots-eq0.self-inside in
-    let line : IsLineOf g.N.PoolName.ring.board e.line e.book.client e.book.said = search rules in
+    let line : IsLineOf (g.N.PartNames.ring e.part).board e.line e.book.client e.book.said = search rules in
     let same : sent e.producer ≡ reverse (unfixes e.book.said) = search rules in
     let held = c.if-not-tell_unfix.false in (
       search rules,

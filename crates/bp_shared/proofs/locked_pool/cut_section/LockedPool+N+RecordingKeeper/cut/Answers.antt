@@ -10,13 +10,15 @@ use Rattle.bp_shared.proofs.Working.{why-of}
 use Rattle.bp_shared.proofs.locked_pool.cut_section.LockedPool+N+RecordingKeeper.cut.Goals as goal
 
 pub join_ends-requires-clause-pair : goal.join_ends-requires-clause-pair
-join_ends-requires-clause-pair g c = c.taker.invariant ∙ sym c.self.invariant.1.ring_is
+join_ends-requires-clause-pair g c =
+    c.taker.invariant ∙ ap (λ n. (g.N.PartNames.ring n).trail) (rw (← c.self.view_is, ← c.taker.view_is) at c.requires.part) ∙ sym c.self.invariant.1.ring_is
 
 pub join_ends-requires-clause-emptied : goal.join_ends-requires-clause-emptied
 join_ends-requires-clause-emptied g c = c.self.invariant.1.emptied
 
 pub pass_on-requires-clause-pair : goal.pass_on-requires-clause-pair
-pass_on-requires-clause-pair g c = c.taker.invariant ∙ sym c.self.invariant.1.ring_is
+pass_on-requires-clause-pair g c =
+    c.taker.invariant ∙ ap (λ n. (g.N.PartNames.ring n).trail) (rw (← c.self.view_is, ← c.taker.view_is) at c.requires.part) ∙ sym c.self.invariant.1.ring_is
 
 pub pass_on-requires-clause-emptied : goal.pass_on-requires-clause-emptied
 pass_on-requires-clause-emptied g c = c.self.invariant.1.emptied
@@ -34,7 +36,7 @@ invariant_of-self g c =
     let joined = c.join_ends.ensures in
     rw still (
       c.self.invariant.0,
-      record { ring_is = joined.producer ∙ c.self.invariant.1.ring_is; emptied = joined.emptied; pieces_are = c.self.invariant.1.pieces_are ∙ ap (after_pieces g.N.PoolName.before) (sym joined.sent) },
+      record { ring_is = joined.producer ∙ c.self.invariant.1.ring_is; emptied = joined.emptied; pieces_are = c.self.invariant.1.pieces_are ∙ ap (after_pieces g.N.PartNames.before) (sym joined.sent) },
       c.self.invariant.2,
       c.self.invariant.3,
       c.self.invariant.4,
@@ -43,7 +45,7 @@ invariant_of-self g c =
 
 pub returns-in-Err : goal.returns-in-Err
 returns-in-Err g c =
-    let before = g.N.PoolName.before in
+    let before = g.N.PartNames.before in
     let old = c.self.inside in
     let room = subst (λ (p : Parameters). p.room ≤ vec_capacity c.args.spare) (sym c.self.invariant.0.parameters_are) c.requires.room in
     let full = c.in-Err.ensures.enough room in
@@ -56,7 +58,7 @@ returns-in-Err g c =
       memory = tt;
       next = tt;
       refused = full;
-      cause = gave_too_many g.N.PoolName.parameters _ old.core c.trail.result.now c.self.invariant.0.parameters_are had t.entries t.room t.legal refused.0;
+      cause = gave_too_many g.N.PartNames.parameters _ old.core c.trail.result.now c.self.invariant.0.parameters_are had t.entries t.room t.legal refused.0;
       same = rw refused.1 refl;
       unchanged = rw joined.received refl;
     }))
@@ -75,7 +77,7 @@ invariant_of-self-2 g c =
 
 pub returns : goal.returns
 returns g c =
-    let before = g.N.PoolName.before in
+    let before = g.N.PartNames.before in
     let passed = c.pass_on.ensures in
     let had = ap (after_pieces before) passed.all ∙ sym c.self.invariant.1.pieces_are in
     let takes = ap (after_pieces before) passed.received ∙ one_more before (received c.taker.inside.taken) c.in-Ok.entries in

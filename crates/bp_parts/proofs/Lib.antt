@@ -1,0 +1,5 @@
+mod Setting
+mod Returning
+mod Striped
+mod Asking
+mod Raising

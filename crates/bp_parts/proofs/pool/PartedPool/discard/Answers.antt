@@ -1,0 +1,17 @@
+-- The session of one part did so, and the others are as they were.
+use Rattle.std.proofs.Common.{rules, arith}
+use Rattle.bp_parts.proofs.Setting.{kept_by, in_part, own_at, stays}
+use Rattle.bp_parts.proofs.pool.PartedPool.discard.Goals as goal
+
+pub pool_of-requires : goal.pool_of-requires
+pool_of-requires g c =
+    let own = own_at _ c.place-part.result.0 c.session.inside.sessions.items c.index_mut-mine.result.now _ c.session.invariant.1 (omega (arith, c.session.invariant.0, c.place-part.ensures.few)) c.index_mut-mine.ensures.value in
+    omega (arith, own.part_is, c.place-part.ensures.few)
+
+pub invariant_of-session : goal.invariant_of-session
+invariant_of-session g c =
+    (search rules, kept_by _ c.place-part.result.0 c.session.inside.sessions.items c.index_mut-mine.result.now c.discard.new.session _ c.session.invariant.1 (omega (arith, c.session.invariant.0, c.place-part.ensures.few)) c.index_mut-mine.ensures.value c.discard.ensures.keeps.client (stays _ _ _ _ _ c.discard.ensures.keeps))
+
+pub returns : goal.returns
+returns g c =
+    rw (← c.session.view_is, ← c.place-part.ensures.part, ← c.place-part.ensures.page) (record { outcome = in_part _ c.place-part.result.0 _ _ c.index_mut-mine.result.now c.discard.new.session _ c.session.invariant.1 (omega (arith, c.session.invariant.0, c.place-part.ensures.few)) c.index_mut-mine.ensures.value (record { keeps = c.discard.ensures.keeps; outcome = c.discard.ensures.outcome; room = c.discard.ensures.room; memory = c.discard.ensures.memory }) })

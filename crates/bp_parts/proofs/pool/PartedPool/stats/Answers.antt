@@ -1,0 +1,19 @@
+-- The session of one part did so, and the others are as they were.
+use Rattle.std.proofs.Common.{rules, arith, ap}
+use Rattle.bp_shared.specs.Sessions.{SessionValue}
+use Rattle.bp_parts.proofs.Setting.{kept_by, in_part, own_at}
+use Rattle.bp_parts.proofs.pool.PartedPool.stats.Goals as goal
+
+pub pool_of-requires : goal.pool_of-requires
+pool_of-requires g c =
+    let own = own_at _ c.args.part c.session.inside.sessions.items c.index_mut-mine.result.now _ c.session.invariant.1 (omega (arith, c.session.invariant.0, c.requires.part)) c.index_mut-mine.ensures.value in
+    omega (arith, own.part_is, c.requires.part)
+
+pub invariant_of-session : goal.invariant_of-session
+invariant_of-session g c =
+    let same = c.stats.ensures.sees.same in
+    (search rules, kept_by _ c.args.part c.session.inside.sessions.items c.index_mut-mine.result.now c.stats.new.session _ c.session.invariant.1 (omega (arith, c.session.invariant.0, c.requires.part)) c.index_mut-mine.ensures.value (ap (λ (s : SessionValue). s.client) same) (ap (λ (s : SessionValue). s.part) same))
+
+pub returns : goal.returns
+returns g c =
+    rw (← c.session.view_is) (record { outcome = in_part _ c.args.part _ _ c.index_mut-mine.result.now c.stats.new.session _ c.session.invariant.1 (omega (arith, c.session.invariant.0, c.requires.part)) c.index_mut-mine.ensures.value (c.stats.ensures.sees, c.stats.ensures.counts) })

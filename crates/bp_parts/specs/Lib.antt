@@ -1,0 +1,6 @@
+-- The parts of a pool, and what a call does in one of them.
+pub mod Parts
+pub mod Calls
+pub mod Redo
+pub mod Flushes
+pub mod Logs

@@ -1,0 +1,29 @@
+//! `PartPass`: a pass of a page in its part.
+ghost use Rattle.std.specs.Prelude.{◌≡◌};
+
+use bp_core::Pass;
+
+/// A pass of a page of a pool in parts: the number of the part, and the pass that this part's pool gave. It has to be
+/// spent, as a pass has.
+pub struct PartPass {
+    pub(crate) part: u8,
+    pub(crate) pass: Pass,
+}
+
+impl PartPass {
+    ghost use Rattle.std.specs.Prelude.{◌≡◌};
+
+    /// Returns the number of the part.
+    pub fn part(&self) -> u8
+        ensures { result ≡ self.now.part }
+    {
+        self.part
+    }
+
+    /// Lends the pass of the part's pool.
+    pub fn pass(&self) -> &Pass
+        ensures { result.now ≡ self.now.pass }
+    {
+        &self.pass
+    }
+}
