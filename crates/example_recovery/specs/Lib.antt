@@ -20,3 +20,4 @@ pub mod Tables
 pub mod TableCalls
 -- Which of two files has the log, and what an opening does.
 pub mod Opening
+pub mod Checkpoints
