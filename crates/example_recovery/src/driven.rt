@@ -6,10 +6,10 @@
 //!
 //! The files are in the folder in which it runs: PAGES pages of SIZE bytes, and two logs of LOG bytes. `show` opens the
 //! table, and prints the number of the commit that each row is from. `work` does so LIVES times, and each time commits
-//! until COMMITS are made, and then stops as a process that dies: what was not made durable may be lost. Where the log is
-//! full it makes a checkpoint. A commit has up to CHANGES changes, which come from SEED and its number. Each EVERY commits
-//! are made durable, and acknowledged by a line, and so is a checkpoint. Where IMAGES is 1, the first change of a page since
-//! the log was begun is of the whole page.
+//! until COMMITS are made, and then stops as a process that dies: what was not made durable may be lost. Where the log
+//! is full it makes a checkpoint. A commit has up to CHANGES changes, which come from SEED and its number. Each EVERY
+//! commits are made durable, and acknowledged by a line, and so is a checkpoint. Where IMAGES is 1, the first change of
+//! a page since the log was begun is of the whole page.
 
 use crate::frames::split_number;
 use crate::log::{LogFault, LogFile};

@@ -132,14 +132,15 @@ pub fn open<R: Wait, S: Store, P: Port>(
     Ok(true)
 }
 
-/// Stop an opening at any moment, by a loss of power or by the end of its process alone. What is found in both files then
-/// makes of the pages what they were to be, as often as it is stopped. Reads brought `seen` of the pages when it began,
-/// which a loss of power might have left too, and `first` is what it would have left. The newer log was written again
-/// before any page was.
-/// The other file may be as an opening left it that ended while it wiped it: it need not be durable, as long as no log
-/// that begins as late is in it, durably or not (`wiping`).
+/// Stop an opening at any moment, by a loss of power or by the end of its process alone. What is found in both files
+/// then makes of the pages what they were to be, as often as it is stopped. Reads brought `seen` of the pages when it
+/// began, which a loss of power might have left too, and `first` is what it would have left. The newer log was written
+/// again before any page was. The other file may be as an opening left it that ended while it wiped it: it need not be
+/// durable, as long as no log that begins as late is in it, durably or not (`wiping`).
+///
 /// When the opening is done each page is what it was to be, durably, and the log that was read begins before the one
-/// that goes on, also as a checkpoint after it finds its file (`settled`). It does nothing: its contract is the law. What is left before that is law `a_crash_is_mended`.
+/// that goes on, also as a checkpoint after it finds its file (`settled`). It does nothing: its contract is the law.
+/// What is left before that is law `a_crash_is_mended`.
 pub fn an_opening_may_be_stopped()
     ensures seen { (tears : Bool) (first : ℕ → List ℕ) (calls : List DeviceCall) (p : ℕ)
         (image : List ℕ) → MayBring tears first calls p image → MayLeave tears first calls p image }

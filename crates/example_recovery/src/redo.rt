@@ -153,7 +153,8 @@ pub fn a_crash_is_mended()
         (changes pending : List Record) →
         TableRan c table cut file start alive past synced calls log_calls commits durable pending →
         Reopened file start log_calls (log_of table commits) durable opening_calls kept n →
-        Honest tears first calls → ((p : ℕ) → length (first p) ≡ c.size) → calls ≡ later ++ (so_far ++ cut.calls) →
+        Honest tears first calls → ((p : ℕ) → length (first p) ≡ c.size) →
+        calls ≡ later ++ (so_far ++ cut.calls) →
         FileLeaves file opening_calls bytes → TellsTrue start (synced_bytes file opening_calls)
         (written_bytes file opening_calls) bytes →
         BeginsBefore start other → ((p : ℕ) → MayLeave tears first (so_far ++ cut.calls) p (left p)) →

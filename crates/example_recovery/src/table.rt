@@ -161,10 +161,11 @@ impl<S: Store, P: Port> Table<S, P> {
 
     /// Makes the oldest change that is pending.
     fn put<R: Wait>(&mut self, rt: &R, change: &LogRecord, lsn: u64) -> Result<(), TableFault>
-        ensures { (older : List Record) → (table : List ℕ) (cut : Cut) (file : List ℕ) (start records : ℕ) (synced : Trail)
-            (calls : List DeviceCall) (log_calls : List FileCall) (commits : List (List Record))
-            (pending : List Record) → IsTable table cut file start synced calls log_calls commits records
-            pending self.old.pool self.old.log →
+        ensures { (older : List Record) → (table : List ℕ) (cut : Cut) (file : List ℕ)
+            (start records : ℕ) (synced : Trail) (calls : List DeviceCall)
+            (log_calls : List FileCall) (commits : List (List Record)) (pending : List Record) →
+            IsTable table cut file start synced calls log_calls commits records pending
+            self.old.pool self.old.log →
             pending ≡ older ++ under lsn change.now ∷ [] →
             TableGoes S.reads S.writes S.syncs P.read_gives P.write_gives P.sync_gives
             self.old.pool self.new.pool self.old.log self.new.log table cut file start calls log_calls
@@ -234,6 +235,7 @@ impl<S: Store, P: Port> Table<S, P> {
         self.is_ended = false;
         Ok(lsn)
     }
+
     /// Writes out each unsaved page, and makes all pages durable. After a sync that failed the log has ended.
     fn save_pages<R: Wait>(&mut self, rt: &R) -> Result<(), TableFault>
         ensures goes { OnErr result (TableDoes S.reads S.writes S.syncs P.read_gives P.write_gives
