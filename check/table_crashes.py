@@ -31,7 +31,7 @@ A_JOB, AT_A_TIME = 25, 3
 
 class SetUp(NamedTuple):
     """The pages and their bytes, the bytes of each log, those that the disk keeps whole, and whether the first change
-    of a page after an opening is of all its bytes, as it has to be where pages tear."""
+    of a page since the log was begun is of all its bytes, as it has to be where pages tear."""
 
     pages: int
     size: int
@@ -132,7 +132,7 @@ class Model:
         for line in said.splitlines(keepends=True):
             if not line.endswith("\n"):
                 return
-            told = re.fullmatch(r"(page|opened|durable) (\d+)(:( \d+)+)?\n", line)
+            told = re.fullmatch(r"(page|opened|durable|checkpoint) (\d+)(:( \d+)+)?\n", line)
             if not told or (told[1] == "page") != bool(told[3]):
                 raise Failed(f"it says {line!r}")
             number = int(told[2])
@@ -141,8 +141,10 @@ class Model:
             elif told[1] == "opened":
                 self.open(run, number, shown)
                 shown = []
-            elif self.seen is None and number > self.least:
+            elif self.seen is None and (number > self.least or told[1] == "checkpoint" and number == self.least):
                 self.settle(number)
+                if told[1] == "checkpoint":
+                    self.known = set()
             else:
                 raise Failed(f"it says {line!r} after commit {self.least}")
 

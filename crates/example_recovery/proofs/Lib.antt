@@ -11,3 +11,4 @@ pub mod Pools
 pub mod Openings
 pub mod Heads
 pub mod Refusals
+pub mod Checkpoints

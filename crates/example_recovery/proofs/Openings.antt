@@ -30,7 +30,7 @@ use Rattle.example_recovery.specs.Lives.Reopened.{ended}
 use Rattle.example_recovery.specs.LogFiles.{Begins, IsLogFile, IsUnread, Wipes, WipesFile}
 use Rattle.example_recovery.specs.LogFiles.IsUnread.{no_memory, failed as failed_read}
 use Rattle.example_recovery.specs.LogFiles.Wipes.{nothing, wrote, unsynced}
-use Rattle.example_recovery.specs.Opening.{AreWithin, Beginning, BeginsBefore, BeginsLog, CreatesLog, EmptiesFile, FindsLog, Found, IsNewer, IsOnlyRead, MayBeOpened, MoveFault, Moves, MovesLog, Redid, again_of}
+use Rattle.example_recovery.specs.Opening.{AreWithin, Beginning, BeginsBefore, BeginsLog, CreatesLog, EmptiesFile, IsEmptied, FindsLog, Found, IsNewer, IsOnlyRead, MayBeOpened, MoveFault, Moves, MovesLog, Redid, again_of}
 use Rattle.example_recovery.specs.Opening.Beginning.{wiping, begun as was_begun}
 use Rattle.example_recovery.specs.Promise.{MayBeRedone, Recovers}
 use Rattle.example_recovery.proofs.CommitsRead.{head-same, payload-same, whole-commits}
@@ -77,22 +77,17 @@ has-same table bytes f g l m cs ds h k =
 
 -- ---- which of two files has it
 
-before-of : (table bytes : List ℕ) (f l n : ℕ) (cs : List LogRecord) → HasCommits table bytes f l cs → BeginsBefore n bytes → f < n
+pub before-of : (table bytes : List ℕ) (f l n : ℕ) (cs : List LogRecord) → HasCommits table bytes f l cs → BeginsBefore n bytes → f < n
 before-of table bytes f l n cs h b = b f table (frames (f + 1) (map payload_of h.commits) ++ h.is_read.rest) h.is_read.records.0 (head-is table bytes f l cs h)
 
--- a log whose first record is durable is found, whatever the other file has from before
-pub found-in : (table file bytes other : List ℕ) (start : ℕ) (alive : Bool) (calls later : List FileCall) (commits : List (List LogRecord)) (kept : List (List ℕ)) (durable n found last : ℕ) (changes : List LogRecord)
-    → LogLife file start alive calls (log_of table commits) durable → Reopened file start calls (log_of table commits) durable later kept n → 1 ≤ durable → FileLeaves file later bytes
-    → TellsTrue start (synced file later) (written file later) bytes → BeginsBefore start other → FindsLog table bytes other found last changes → HasCommits table bytes found last changes
-found-in table file bytes other start alive calls later commits kept durable n found last changes life reopened named leaves tells below (inl f) = f.has
-found-in table file bytes other start alive calls later commits kept durable n found last changes life reopened named leaves tells below (inr f) =
-    let r = remains file start (log_of table commits) durable alive calls (life-is file start alive calls (log_of table commits) durable life) later kept n reopened in
+-- a log whose first record is durable stands at the front
+pub log-front : (file bytes : List ℕ) (start : ℕ) (alive : Bool) (calls later : List FileCall) (log kept : List (List ℕ)) (durable n : ℕ) → LogLife file start alive calls log durable → Reopened file start calls log durable later kept n → 1 ≤ durable → FileLeaves file later bytes
+    → TellsTrue start (synced file later) (written file later) bytes → (head rest : List ℕ) × IsRecord start head × (bytes ≡ frame start head ++ rest)
+log-front file bytes start alive calls later log kept durable n life reopened named leaves tells =
+    let r = remains file start log durable alive calls (life-is file start alive calls log durable life) later kept n reopened in
     let more = r.durably in
     let count = r.is.count in
-    let h = head-left n kept (omega arith) count r.is.records (front-is file start false later kept n bytes r.is leaves tells) in
-    let a = before-of table other found last start changes f.has below in
-    let b = f.other start h.0 h.1 h.2 h.3 in
-    absurd (omega arith)
+    head-left n kept (omega arith) count r.is.records (front-is file start false later kept n bytes r.is leaves tells)
   where
     head-left : (k : ℕ) (xs : List (List ℕ)) → 1 ≤ k → k ≤ length xs → AreRecords start xs → bytes ≡ frames start (take k xs) ++ drop (length (frames start (take k xs))) bytes → (head rest : List ℕ) × IsRecord start head × (bytes ≡ frame start head ++ rest)
     head-left zero xs le most are e = absurd (omega arith)
@@ -101,6 +96,17 @@ found-in table file bytes other start alive calls later commits kept durable n f
         let more = frames (start + 1) (take k xs) in
         let tail = drop (length (frames start (take (suc k) (x ∷ xs)))) bytes in
         (x, more ++ tail, are.0, e ∙ append_assoc (frame start x) more tail)
+
+-- it is found, whatever the other file has from before
+pub found-in : (table file bytes other : List ℕ) (start : ℕ) (alive : Bool) (calls later : List FileCall) (commits : List (List LogRecord)) (kept : List (List ℕ)) (durable n found last : ℕ) (changes : List LogRecord)
+    → LogLife file start alive calls (log_of table commits) durable → Reopened file start calls (log_of table commits) durable later kept n → 1 ≤ durable → FileLeaves file later bytes
+    → TellsTrue start (synced file later) (written file later) bytes → BeginsBefore start other → FindsLog table bytes other found last changes → HasCommits table bytes found last changes
+found-in table file bytes other start alive calls later commits kept durable n found last changes life reopened named leaves tells below (inl f) = f.has
+found-in table file bytes other start alive calls later commits kept durable n found last changes life reopened named leaves tells below (inr f) =
+    let h = log-front file bytes start alive calls later (log_of table commits) kept durable n life reopened named leaves tells in
+    let a = before-of table other found last start changes f.has below in
+    let b = f.other start h.0 h.1 h.2 h.3 in
+    absurd (omega arith)
 
 -- ---- changes within the device
 
@@ -178,7 +184,7 @@ module _ (older : List ℕ) (before : List FileCall) (long : length (written old
         (still-long more are.1, subst (BeginsBefore begun) (sym are.0) below_synced, last-before more are.1)
 
     -- a record at the front of what is left stood there before
-    stood : (more : List FileCall) (start : ℕ) (bytes : List ℕ) → Wipes (length older) more → TellsTrue start (synced older (more ++ before)) (written older (more ++ before)) bytes
+    pub stood : (more : List FileCall) (start : ℕ) (bytes : List ℕ) → Wipes (length older) more → TellsTrue start (synced older (more ++ before)) (written older (more ++ before)) bytes
         → (lsn : ℕ) (payload rest : List ℕ) → IsRecord lsn payload → bytes ≡ frame lsn payload ++ rest → lsn < begun
     stood more start bytes wipes tells lsn payload rest fit e = go ((wiping-before more wipes).1, (wiping-before more wipes).2) (tells [] lsn payload rest fit e)
       where
@@ -218,15 +224,25 @@ module _ (older : List ℕ) (before : List FileCall) (long : length (written old
         at i (inl same) = same ∙ ap (λ (t : List ℕ). get_or t i 0) (is (settles true wipe) yes)
         at i (inr unsure) = absurd (sure (settles true wipe) (Unsure wipe i) yes unsure)
 
-    pub none-left-of : (left : List ℕ) → FileLeaves older (Sync true ∷ wipe) left → NoFrame left
-    none-left-of left leaves = subst NoFrame (sym (all-zeros left leaves)) (zeros-none (length older))
+    pub is-emptied : IsEmptied older (Sync true ∷ wipe)
+    is-emptied = record {
+      well = well;
+      long = ap (λ (t : List ℕ). length t) zeros-are ∙ length-replicate {A = ℕ} (length older) 0;
+      last = subst NoFrame (sym zeros-are) (zeros-none (length older));
+      durably = subst NoFrame (sym (all-durable (settles true wipe) (ap not well))) (zeros-none (length older));
+      left = λ bytes leaves. subst NoFrame (sym (all-zeros bytes leaves)) (zeros-none (length older));
+    }
+      where
+        all-durable : (b : Bool) → b ≡ true → cond b (written older wipe) (synced older wipe) ≡ zeros
+        all-durable true e = zeros-are
+        all-durable false e = absurd cc
 
 -- a log of one record has no commit
 none-kept : (kept lost : List (List LogRecord)) → [] ≡ kept ++ lost → changes_of kept ≡ []
 none-kept [] lost e = refl
 none-kept (x ∷ kept) lost e = absurd cc
 
-none-read : (table file bytes : List ℕ) (start : ℕ) (alive : Bool) (calls later : List FileCall) (log kept : List (List ℕ)) (durable n f l : ℕ) (cs : List LogRecord) → LogLife file start alive calls log durable → (log ≡ []) ⊎ (log ≡ table ∷ [])
+pub none-read : (table file bytes : List ℕ) (start : ℕ) (alive : Bool) (calls later : List FileCall) (log kept : List (List ℕ)) (durable n f l : ℕ) (cs : List LogRecord) → LogLife file start alive calls log durable → (log ≡ []) ⊎ (log ≡ table ∷ [])
     → Reopened file start calls log durable later kept n → FileLeaves file later bytes → TellsTrue start (synced file later) (written file later) bytes → HasCommits table bytes f l cs → cs ≡ []
 none-read table file bytes start alive calls later log kept durable n f l cs life (inl e) reopened leaves tells has =
     let r = remains file start log durable alive calls (life-is file start alive calls log durable life) later kept n reopened in
@@ -270,6 +286,26 @@ settled-left bytes left s = ext_get_or 0 left bytes (s.leaves.long ∙ s.long) (
     at : (i : ℕ) → (get_or left i 0 ≡ get_or (synced s.first s.calls) i 0) ⊎ Unsure s.calls i → get_or left i 0 ≡ get_or bytes i 0
     at i (inl same) = same ∙ ap (λ (t : List ℕ). get_or t i 0) h.1
     at i (inr unsure) = absurd (h.2 i unsure)
+
+-- the log that was read begins before one that follows it, in the file too
+module _ (table newer older : List ℕ) (begun last : ℕ) (changes : List LogRecord) (is : IsNewer table newer older begun last changes) where
+  again-before : BeginsBefore (last + 1) (again_of is)
+  again-before = λ lsn payload rest fit e.
+      (let log = log_of table is.has.commits in
+      let behind = frames (begun + 1) (map payload_of is.has.commits) ++ replicate (length newer - length (frames begun log)) 0 in
+      let same = (frame-same lsn begun payload table rest behind fit is.has.is_read.records.0 (sym e ∙ append_assoc (frame begun table) (frames (begun + 1) (map payload_of is.has.commits)) (replicate (length newer - length (frames begun log)) 0))).0 in
+      let ended = is.has.last_is in
+      omega (arith, same))
+
+  module _ (file : List ℕ) (calls : List FileCall) (settled : IsSettled file (again_of is) calls) where
+    pub settled-synced-before : BeginsBefore (last + 1) (synced file calls)
+    settled-synced-before = subst (BeginsBefore (last + 1)) (sym (all-settled file (again_of is) calls settled).1) again-before
+
+    pub settled-written-before : BeginsBefore (last + 1) (written file calls)
+    settled-written-before = subst (BeginsBefore (last + 1)) (sym (all-settled file (again_of is) calls settled).0) again-before
+
+    pub settled-long : length (written file calls) ≡ length (again_of is)
+    settled-long = ap (λ (t : List ℕ). length t) (all-settled file (again_of is) calls settled).0
 
 -- ---- what reads bring a crash may leave
 
@@ -469,7 +505,7 @@ pub emptied : {S : Type 0} (reads writes : Transfer S) (syncs : StoreSync S) (ol
 emptied reads writes syncs old new w = λ file before well long size. (
   Sync true ∷ Write 0 (replicate (length file) 0) true ∷ [],
   (w.0, (old.store, refl, subst (λ (n : ℕ). writes old.store 0 (replicate n 0) true w.0) size w.1), w.2),
-  none-left-of file before long well,
+  is-emptied file before long well,
 )
 
 -- ---- why an opening does not come to the logs

@@ -1,5 +1,5 @@
 -- What a crash leaves of a device that a pool worked, and what its reads brought.
-use Rattle.std.proofs.Common.{◌≡◌, ◌≢◌, inl, inr, refl, sym, ap, subst, ◌∙◌, ℕ, suc, ◌≤◌, if◌then◌else◌, Bool, true, false, not, ◌&&◌, ◌||◌, ◌==◌, List, [], ◌∷◌, ◌++◌, length, filter_map, append-nil, Option, Some, None, arith}
+use Rattle.std.proofs.Common.{◌≡◌, ◌≢◌, inl, inr, refl, sym, ap, subst, ◌∙◌, ℕ, suc, ◌≤◌, if◌then◌else◌, Bool, true, false, not, ◌&&◌, ◌||◌, ◌==◌, List, [], ◌∷◌, ◌++◌, length, filter_map, append-nil, length-append, Option, Some, None, arith}
 use Rattle.std.specs.Prelude.{◌⊎◌}
 use Rattle.std.specs.Bool.{MatchBool}
 use Rattle.std.specs.List.{cons_option}
@@ -26,8 +26,8 @@ use Rattle.bp_trail.proofs.Sentences.{due-kept}
 use Rattle.bp_trail.proofs.UsedAgain.{sent-sized}
 use Rattle.example_recovery.specs.Disk.{DeviceCall, MayBring, MayLeave, Honest, sync_failed}
 use Rattle.example_recovery.specs.Disk.DeviceCall.{Read, NotRead, Write, Sync}
-use Rattle.example_recovery.specs.PoolLives.{PoolLife, NoneFailed, NoneOpen, ends_work}
-use Rattle.example_recovery.specs.PoolLives.PoolLife.{opened, entered, read, not_read, wrote, was_synced}
+use Rattle.example_recovery.specs.PoolLives.{PoolFrom, PoolLife, NoneFailed, NoneOpen, ends_work}
+use Rattle.example_recovery.specs.PoolLives.PoolFrom.{opened, entered, read, not_read, wrote, was_synced}
 
 -- ---- tickets
 
@@ -417,29 +417,56 @@ module _ (tears : Bool) (first : ℕ → List ℕ) (p : ℕ) (image : List ℕ) 
       go true before n h = whole-bring older n h
       go false before n h = before n h
 
--- ---- an earlier moment
+-- ---- what comes after a moment at which all was durable
 
-pub record Earlier (past : Trail) (so_far : List DeviceCall) : Type 0 where
-  pub since : Trail
-  pub old : Trail
-  pub settled : Trail
-  pub parts : past ≡ since ++ old
-  pub life : PoolLife old so_far settled
+module _ (begun : Trail) (begun_calls : List DeviceCall) where
+  abbrev Life : Trail → List DeviceCall → Trail → Type 0
+  Life = PoolFrom begun begun_calls
 
-earlier-more : (e : Entry) (past : Trail) (so_far : List DeviceCall) → Earlier past so_far → Earlier (e ∷ past) so_far
-earlier-more e past so_far h = record { since = e ∷ h.since; old = h.old; settled = h.settled; parts = ap (λ (t : Trail). e ∷ t) h.parts; life = h.life }
+  pub then-life : PoolLife begun begun_calls begun → (past synced : Trail) (calls : List DeviceCall) → Life past calls synced → PoolLife past calls synced
+  then-life life _ _ _ opened = life
+  then-life life _ _ _ (entered {past = past} {synced = synced} {calls = calls} e w h) = entered e w (then-life life past synced calls h)
+  then-life life _ _ _ (read {past = past} {synced = synced} {calls = calls} e t p image i h) = read e t p image i (then-life life past synced calls h)
+  then-life life _ _ _ (not_read {past = past} {synced = synced} {calls = calls} e t p i h) = not_read e t p i (then-life life past synced calls h)
+  then-life life _ _ _ (wrote {older = older} {synced = synced} {calls = calls} e f t p image good i j h) = wrote e f t p image good i j (then-life life (f ∷ older) synced calls h)
+  then-life life _ _ _ (was_synced {past = past} {synced = synced} {calls = calls} good h) = was_synced good (then-life life past synced calls h)
 
-tail-same : (a b : DeviceCall) (xs ys : List DeviceCall) → a ∷ xs ≡ b ∷ ys → xs ≡ ys
-tail-same a b xs ys e = cc
+  -- what was there stays, durably
+  pub since-begun : (past synced : Trail) (calls : List DeviceCall) → Life past calls synced → ((x : Trail) × (past ≡ x ++ begun)) × ((y : Trail) × (synced ≡ y ++ begun))
+  since-begun _ _ _ opened = (([], refl), ([], refl))
+  since-begun _ _ _ (entered {past = past} {synced = synced} {calls = calls} e w h) = let k = since-begun past synced calls h in ((e ∷ k.0.0, ap (λ (t : Trail). e ∷ t) k.0.1), k.1)
+  since-begun _ _ _ (read {past = past} {synced = synced} {calls = calls} e t p image i h) = let k = since-begun past synced calls h in ((e ∷ k.0.0, ap (λ (t : Trail). e ∷ t) k.0.1), k.1)
+  since-begun _ _ _ (not_read {past = past} {synced = synced} {calls = calls} e t p i h) = let k = since-begun past synced calls h in ((e ∷ k.0.0, ap (λ (t : Trail). e ∷ t) k.0.1), k.1)
+  since-begun _ _ _ (wrote {older = older} {synced = synced} {calls = calls} e f t p image good i j h) = let k = since-begun (f ∷ older) synced calls h in ((e ∷ k.0.0, ap (λ (t : Trail). e ∷ t) k.0.1), k.1)
+  since-begun _ _ _ (was_synced {past = past} {synced = synced} {calls = calls} good h) = let k = since-begun past synced calls h in (k.0, go (good && not (some sync_failed calls)) k)
+    where
+      go : (b : Bool) → ((x : Trail) × (past ≡ x ++ begun)) × ((y : Trail) × (synced ≡ y ++ begun)) → (y : Trail) × ((if b then past else synced) ≡ y ++ begun)
+      go true k = k.0
+      go false k = k.1
 
-pub earlier : (past synced : Trail) (calls : List DeviceCall) → PoolLife past calls synced → (later so_far : List DeviceCall) → calls ≡ later ++ so_far → Earlier past so_far
-earlier past synced calls life [] so_far e = record { since = []; old = past; settled = synced; parts = refl; life = subst (λ (cs : List DeviceCall). PoolLife past cs synced) e life }
-earlier _ _ _ opened (call ∷ later) so_far e = absurd (cc)
-earlier _ _ _ (entered {past = past} {synced = synced} {calls = calls} d w life) (call ∷ later) so_far e = earlier-more d past so_far (earlier past synced calls life (call ∷ later) so_far e)
-earlier _ _ _ (read {past = past} {synced = synced} {calls = calls} d t p image i life) (call ∷ later) so_far e = earlier-more d past so_far (earlier past synced calls life later so_far (tail-same (Read p image) call calls (later ++ so_far) e))
-earlier _ _ _ (not_read {past = past} {synced = synced} {calls = calls} d t p i life) (call ∷ later) so_far e = earlier-more d past so_far (earlier past synced calls life later so_far (tail-same (NotRead p) call calls (later ++ so_far) e))
-earlier _ _ _ (wrote {older = older} {synced = synced} {calls = calls} d f t p image good i j life) (call ∷ later) so_far e = earlier-more d (f ∷ older) so_far (earlier (f ∷ older) synced calls life later so_far (tail-same (Write p image good) call calls (later ++ so_far) e))
-earlier _ _ _ (was_synced {past = past} {synced = synced} {calls = calls} good life) (call ∷ later) so_far e = earlier past synced calls life later so_far (tail-same (Sync good) call calls (later ++ so_far) e)
+  -- ---- an earlier moment
+
+  pub record Earlier (past : Trail) (so_far : List DeviceCall) : Type 0 where
+    pub since : Trail
+    pub old : Trail
+    pub settled : Trail
+    pub parts : past ≡ since ++ old
+    pub life : Life old (so_far ++ begun_calls) settled
+
+  earlier-more : (e : Entry) (past : Trail) (so_far : List DeviceCall) → Earlier past so_far → Earlier (e ∷ past) so_far
+  earlier-more e past so_far h = record { since = e ∷ h.since; old = h.old; settled = h.settled; parts = ap (λ (t : Trail). e ∷ t) h.parts; life = h.life }
+
+  tail-same : (a b : DeviceCall) (xs ys : List DeviceCall) → a ∷ xs ≡ b ∷ ys → xs ≡ ys
+  tail-same a b xs ys e = cc
+
+  pub earlier : (past synced : Trail) (calls : List DeviceCall) → Life past calls synced → (later so_far : List DeviceCall) → calls ≡ later ++ (so_far ++ begun_calls) → Earlier past so_far
+  earlier past synced calls life [] so_far e = record { since = []; old = past; settled = synced; parts = refl; life = subst (λ (cs : List DeviceCall). Life past cs synced) e life }
+  earlier _ _ _ opened (call ∷ later) so_far e = absurd (omega (arith, ap (λ (cs : List DeviceCall). length cs) e, length-append later (so_far ++ begun_calls), length-append so_far begun_calls))
+  earlier _ _ _ (entered {past = past} {synced = synced} {calls = calls} d w life) (call ∷ later) so_far e = earlier-more d past so_far (earlier past synced calls life (call ∷ later) so_far e)
+  earlier _ _ _ (read {past = past} {synced = synced} {calls = calls} d t p image i life) (call ∷ later) so_far e = earlier-more d past so_far (earlier past synced calls life later so_far (tail-same (Read p image) call calls (later ++ (so_far ++ begun_calls)) e))
+  earlier _ _ _ (not_read {past = past} {synced = synced} {calls = calls} d t p i life) (call ∷ later) so_far e = earlier-more d past so_far (earlier past synced calls life later so_far (tail-same (NotRead p) call calls (later ++ (so_far ++ begun_calls)) e))
+  earlier _ _ _ (wrote {older = older} {synced = synced} {calls = calls} d f t p image good i j life) (call ∷ later) so_far e = earlier-more d (f ∷ older) so_far (earlier (f ∷ older) synced calls life later so_far (tail-same (Write p image good) call calls (later ++ (so_far ++ begun_calls)) e))
+  earlier _ _ _ (was_synced {past = past} {synced = synced} {calls = calls} good life) (call ∷ later) so_far e = earlier past synced calls life later so_far (tail-same (Sync good) call calls (later ++ (so_far ++ begun_calls)) e)
 
 pub legal-then : (c : Parameters) (since old : Trail) → Legal c (since ++ old) → Legal c old
 legal-then c [] old l = l

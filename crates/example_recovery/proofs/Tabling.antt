@@ -2,7 +2,7 @@
 use Rattle.std.proofs.Common.{◌≡◌, inl, inr, refl, sym, ap, subst, ◌∙◌, ℕ, max, ◌+◌, ◌<◌, ◌≤◌, Bool, true, false, not, cond, ◌==◌, ◌&&◌, ◌||◌, List, [], ◌∷◌, ◌++◌, length, take, drop, get_or, reverse, map, filter_map, Option, None, append_assoc, arith}
 use Rattle.std.specs.Prelude.{◌⊎◌, Result, Ok, Err, OnOk}
 use Rattle.std.specs.Result.{IsErr}
-use Rattle.std.proofs.lemmas.Bool.{cases_lt}
+use Rattle.std.proofs.lemmas.Bool.{cases_lt, or_parts}
 use Rattle.std.proofs.Common.{◌-◌}
 use Rattle.bp_page.specs.declared.refusals.Refusal.{Refusal}
 use Rattle.bp_page.specs.declared.refusals.Refusal.TheVariants as refusal
@@ -37,13 +37,13 @@ use Rattle.bp_device.specs.Owned.{ForPage, ForPart, IsTicked, IsUnticked, OwnedV
 use Rattle.bp_ports.specs.Files.{Transfer, StoreSync}
 use Rattle.example_recovery.specs.declared.log.LogFile.{LogFile}
 use Rattle.example_recovery.specs.Commits.{IsChange, change_bytes, AreChanges, changes_of, log_of, payload_of}
-use Rattle.example_recovery.specs.Disk.{DeviceCall, Reads, Writes, Syncs, Did}
+use Rattle.example_recovery.specs.Disk.{DeviceCall, Reads, Writes, Syncs, Did, sync_failed}
 use Rattle.example_recovery.specs.Disk.DeviceCall.{Read as DeviceRead, NotRead as DeviceNotRead, Write as DeviceWrite}
 use Rattle.example_recovery.specs.Files.{FileCall}
 use Rattle.example_recovery.specs.LogFiles.{IsLogFile, GoesOn}
-use Rattle.example_recovery.specs.PoolLives.{PoolLife, ends_work}
-use Rattle.example_recovery.specs.PoolLives.PoolLife.{opened, entered, read, not_read, wrote}
-use Rattle.example_recovery.specs.Tables.{writes_of}
+use Rattle.example_recovery.specs.PoolLives.{PoolFrom, ends_work}
+use Rattle.example_recovery.specs.PoolLives.PoolFrom.{opened, entered, read, not_read, wrote}
+use Rattle.example_recovery.specs.Tables.{Cut, no_cut, writes_of}
 use Rattle.example_recovery.specs.TableCalls.{IsTable, TableGoes, under}
 use Rattle.example_recovery.proofs.CommitsRead.{commits-push, changes_of-push, changes-push, payload-push}
 use Rattle.example_recovery.specs.Lives.{LogLife}
@@ -99,43 +99,50 @@ quiet-keeps (e ∷ older) past p q k = ap (λ (b : Bool). b || some (discards p)
 
 -- ---- the work of a pool
 
-module _ {P : Type 0} (reads : Reads P) (writes : Writes P) (syncs : Syncs P) where
-  abbrev Worked : P → P → Trail → List DeviceCall → Trail → Type 0
-  Worked port after past calls synced = (more : List DeviceCall) × Did reads writes syncs port more after × PoolLife past (more ++ calls) synced
+pub none-added : (more calls : List DeviceCall) → some sync_failed more ≡ false → some sync_failed calls ≡ false → some sync_failed (more ++ calls) ≡ false
+none-added [] calls h k = k
+none-added (call ∷ more) calls h k = let a = or_parts (sync_failed call) (some sync_failed more) h in ap (λ (b : Bool). b || some sync_failed (more ++ calls)) a.0 ∙ none-added more calls a.1 k
 
-  works-one : (past synced : Trail) (calls more : List DeviceCall) (e : Entry) (port mid after : P) → Did reads writes syncs port more mid → PoolLife past (more ++ calls) synced → (call : Call) → e.call ≡ call → Works reads writes past call e.reply mid after
+module _ {P : Type 0} (reads : Reads P) (writes : Writes P) (syncs : Syncs P) (begun : Trail) (begun_calls : List DeviceCall) where
+  abbrev Life : Trail → List DeviceCall → Trail → Type 0
+  Life = PoolFrom begun begun_calls
+
+  abbrev Worked : P → P → Trail → List DeviceCall → Trail → Type 0
+  Worked port after past calls synced = (more : List DeviceCall) × Did reads writes syncs port more after × Life past (more ++ calls) synced × (some sync_failed more ≡ false)
+
+  works-one : (past synced : Trail) (calls more : List DeviceCall) (e : Entry) (port mid after : P) → Did reads writes syncs port more mid → Life past (more ++ calls) synced → some sync_failed more ≡ false → (call : Call) → e.call ≡ call → Works reads writes past call e.reply mid after
       → Worked port after (e ∷ past) calls synced
-  works-one past synced calls more e port mid after did life (ReadEnd t p image) i w = go w.found w.gave w.image_is
+  works-one past synced calls more e port mid after did life none (ReadEnd t p image) i w = go w.found w.gave w.image_is
     where
       go : (found : Result (List ℕ) PortFault) → reads mid p found after → image ≡ image_found found → Worked port after (e ∷ past) calls synced
-      go (Ok bytes) gave is = (DeviceRead p bytes ∷ more, (mid, did, gave), read e t p bytes (i ∙ ap (λ o. ReadEnd t p o) is) life)
-      go (Err fault) gave is = (DeviceNotRead p ∷ more, (mid, did, (fault, gave)), not_read e t p (i ∙ ap (λ o. ReadEnd t p o) is) life)
-  works-one past synced calls more e port mid after did life (WriteEnd t p good) i w = go past life w.began
+      go (Ok bytes) gave is = (DeviceRead p bytes ∷ more, (mid, did, gave), read e t p bytes (i ∙ ap (λ o. ReadEnd t p o) is) life, none)
+      go (Err fault) gave is = (DeviceNotRead p ∷ more, (mid, did, (fault, gave)), not_read e t p (i ∙ ap (λ o. ReadEnd t p o) is) life, none)
+  works-one past synced calls more e port mid after did life none (WriteEnd t p good) i w = go past life w.began
     where
-      go : (xs : Trail) → PoolLife xs (more ++ calls) synced → Ends (WriteFirst t p w.image) xs → Worked port after (e ∷ xs) calls synced
+      go : (xs : Trail) → Life xs (more ++ calls) synced → Ends (WriteFirst t p w.image) xs → Worked port after (e ∷ xs) calls synced
       go [] life began = absurd began
-      go (f ∷ older) life began = (DeviceWrite p w.image good ∷ more, (mid, did, (page_lsn past p, w.written, w.gave, w.good_is)), wrote e f t p w.image good i began life)
-  works-one past synced calls more e port mid after did life (Tick n) i w = (more, subst (λ x. Did reads writes syncs port more x) (sym w) did, entered e (ap ends_work i) life)
-  works-one past synced calls more e port mid after did life (Mark n) i w = (more, subst (λ x. Did reads writes syncs port more x) (sym w) did, entered e (ap ends_work i) life)
-  works-one past synced calls more e port mid after did life (Fix p) i w = (more, subst (λ x. Did reads writes syncs port more x) (sym w) did, entered e (ap ends_work i) life)
-  works-one past synced calls more e port mid after did life (Read n p) i w = (more, subst (λ x. Did reads writes syncs port more x) (sym w) did, entered e (ap ends_work i) life)
-  works-one past synced calls more e port mid after did life (Write n p o b l) i w = (more, subst (λ x. Did reads writes syncs port more x) (sym w) did, entered e (ap ends_work i) life)
-  works-one past synced calls more e port mid after did life (Unfix n p) i w = (more, subst (λ x. Did reads writes syncs port more x) (sym w) did, entered e (ap ends_work i) life)
-  works-one past synced calls more e port mid after did life (Flush p) i w = (more, subst (λ x. Did reads writes syncs port more x) (sym w) did, entered e (ap ends_work i) life)
-  works-one past synced calls more e port mid after did life (Discard p) i w = (more, subst (λ x. Did reads writes syncs port more x) (sym w) did, entered e (ap ends_work i) life)
-  works-one past synced calls more e port mid after did life Purge i w = (more, subst (λ x. Did reads writes syncs port more x) (sym w) did, entered e (ap ends_work i) life)
+      go (f ∷ older) life began = (DeviceWrite p w.image good ∷ more, (mid, did, (page_lsn past p, w.written, w.gave, w.good_is)), wrote e f t p w.image good i began life, none)
+  works-one past synced calls more e port mid after did life none (Tick n) i w = (more, subst (λ x. Did reads writes syncs port more x) (sym w) did, entered e (ap ends_work i) life, none)
+  works-one past synced calls more e port mid after did life none (Mark n) i w = (more, subst (λ x. Did reads writes syncs port more x) (sym w) did, entered e (ap ends_work i) life, none)
+  works-one past synced calls more e port mid after did life none (Fix p) i w = (more, subst (λ x. Did reads writes syncs port more x) (sym w) did, entered e (ap ends_work i) life, none)
+  works-one past synced calls more e port mid after did life none (Read n p) i w = (more, subst (λ x. Did reads writes syncs port more x) (sym w) did, entered e (ap ends_work i) life, none)
+  works-one past synced calls more e port mid after did life none (Write n p o b l) i w = (more, subst (λ x. Did reads writes syncs port more x) (sym w) did, entered e (ap ends_work i) life, none)
+  works-one past synced calls more e port mid after did life none (Unfix n p) i w = (more, subst (λ x. Did reads writes syncs port more x) (sym w) did, entered e (ap ends_work i) life, none)
+  works-one past synced calls more e port mid after did life none (Flush p) i w = (more, subst (λ x. Did reads writes syncs port more x) (sym w) did, entered e (ap ends_work i) life, none)
+  works-one past synced calls more e port mid after did life none (Discard p) i w = (more, subst (λ x. Did reads writes syncs port more x) (sym w) did, entered e (ap ends_work i) life, none)
+  works-one past synced calls more e port mid after did life none Purge i w = (more, subst (λ x. Did reads writes syncs port more x) (sym w) did, entered e (ap ends_work i) life, none)
 
-  pub works : (past synced piece : Trail) (calls : List DeviceCall) (port after : P) → PoolLife past calls synced → WorksThrough reads writes past piece port after → Worked port after (piece ++ past) calls synced
-  works past synced [] calls port after life w = ([], w, life)
+  pub works : (past synced piece : Trail) (calls : List DeviceCall) (port after : P) → Life past calls synced → WorksThrough reads writes past piece port after → Worked port after (piece ++ past) calls synced
+  works past synced [] calls port after life w = ([], w, life, refl)
   works past synced (e ∷ older) calls port after life w =
       let h = works past synced older calls port w.0 life w.1 in
-      works-one (older ++ past) synced calls h.0 e port w.0 after h.1 h.2 e.call refl w.2
+      works-one (older ++ past) synced calls h.0 e port w.0 after h.1 h.2 h.3 e.call refl w.2
 
 -- ---- the calls of a table, one after the other
 
-module _ {S P : Type 0} (reads writes : Transfer S) (syncs : StoreSync S) (page_reads : Reads P) (page_writes : Writes P) (page_syncs : Syncs P) (table file : List ℕ) (start : ℕ) where
+module _ {S P : Type 0} (reads writes : Transfer S) (syncs : StoreSync S) (page_reads : Reads P) (page_writes : Writes P) (page_syncs : Syncs P) (table : List ℕ) (cut : Cut) (file : List ℕ) (start : ℕ) where
   abbrev Goes : OwnedView P → OwnedView P → LogFile S → LogFile S → List DeviceCall → List FileCall → (List (List LogRecord) → ℕ → List LogRecord → Type 0) → Type 0
-  Goes old new old_log new_log calls log_calls so = TableGoes reads writes syncs page_reads page_writes page_syncs old new old_log new_log table file start calls log_calls so
+  Goes old new old_log new_log calls log_calls so = TableGoes reads writes syncs page_reads page_writes page_syncs old new old_log new_log table cut file start calls log_calls so
 
   pub table-then : (old mid new : OwnedView P) (old_log mid_log new_log : LogFile S) (calls : List DeviceCall) (log_calls : List FileCall) (A B : List (List LogRecord) → ℕ → List LogRecord → Type 0)
       → (g : Goes old mid old_log mid_log calls log_calls A) → Goes mid new mid_log new_log (g.more ++ calls) (g.more_log ++ log_calls) B → Goes old new old_log new_log calls log_calls B
@@ -149,13 +156,13 @@ module _ {S P : Type 0} (reads writes : Transfer S) (syncs : StoreSync S) (page_
     did = did-append page_reads page_writes page_syncs old.port mid.port new.port h.more g.more g.did h.did;
     log_did = file-did-append reads writes syncs old_log.store mid_log.store new_log.store h.more_log g.more_log g.log_did h.log_did;
     is =
-        subst (λ (cs : List DeviceCall). IsTable table file start h.synced cs ((h.more_log ++ g.more_log) ++ log_calls) h.commits h.durable h.pending new new_log) (sym (append_assoc h.more g.more calls))
-        (subst (λ (cs : List FileCall). IsTable table file start h.synced (h.more ++ (g.more ++ calls)) cs h.commits h.durable h.pending new new_log) (sym (append_assoc h.more_log g.more_log log_calls)) h.is);
+        subst (λ (cs : List DeviceCall). IsTable table cut file start h.synced cs ((h.more_log ++ g.more_log) ++ log_calls) h.commits h.durable h.pending new new_log) (sym (append_assoc h.more g.more calls))
+        (subst (λ (cs : List FileCall). IsTable table cut file start h.synced (h.more ++ (g.more ++ calls)) cs h.commits h.durable h.pending new new_log) (sym (append_assoc h.more_log g.more_log log_calls)) h.is);
     is_so = h.is_so;
   }
 
   module _ (synced : Trail) (calls : List DeviceCall) (log_calls : List FileCall) (commits : List (List LogRecord)) (records : ℕ) (pending : List LogRecord) (old : OwnedView P) (old_log : LogFile S)
-      (is : IsTable table file start synced calls log_calls commits records pending old old_log) where
+      (is : IsTable table cut file start synced calls log_calls commits records pending old old_log) where
     pub table-stays : (so : List (List LogRecord) → ℕ → List LogRecord → Type 0) → so commits records pending → Goes old old old_log old_log calls log_calls so
     table-stays so p = record {
       more = [];
@@ -174,9 +181,9 @@ module _ {S P : Type 0} (reads writes : Transfer S) (syncs : StoreSync S) (page_
     count = let l = life-is file start (not old_log.is_ended) log_calls (log_of table commits) records is.ran.log in omega (arith, l.count, length-map commits payload_of)
 
     -- the log was synced
-    pub log-syncs : (new_log : LogFile S) (good : Bool) → GoesOn reads writes syncs old_log new_log file start log_calls (λ after n. (after ≡ log_of table commits) × ((good ≡ true → n ≡ length (log_of table commits)) × (good ≡ false → n ≡ records)))
+    pub log-syncs : (new_log : LogFile S) (good : Bool) → old_log.is_ended ≡ false → GoesOn reads writes syncs old_log new_log file start log_calls (λ after n. (after ≡ log_of table commits) × ((good ≡ true → n ≡ length (log_of table commits)) × (good ≡ false → n ≡ records)))
         → Goes old old old_log new_log calls log_calls (λ after n left. (after ≡ commits) × (left ≡ pending) × (good ≡ true → n ≡ 1 + length commits))
-    log-syncs new_log good g = go good g.is_so.1
+    log-syncs new_log good alive g = go good g.is_so.1
       where
         size : length (log_of table commits) ≡ 1 + length commits
         size = omega (arith, length-map commits payload_of)
@@ -196,7 +203,9 @@ module _ {S P : Type 0} (reads writes : Transfer S) (syncs : StoreSync S) (page_
               log = subst (λ (xs : List (List ℕ)). LogLife file start (not new_log.is_ended) (g.more ++ log_calls) xs g.durable) g.is_so.0 g.is.life;
               are = is.ran.are;
               legal = is.ran.legal;
+              cut_is = is.ran.cut_is;
               pool = is.ran.pool;
+              unfailed = λ yes. is.ran.unfailed (ap not alive);
               written = is.ran.written;
               mark = (let m = is.ran.mark in let k = count in let more = at-least b n in omega arith);
               named = (let m = is.ran.named in let more = at-least b n in omega arith);
@@ -213,9 +222,10 @@ module _ {S P : Type 0} (reads writes : Transfer S) (syncs : StoreSync S) (page_
 
     -- the pool's entries became more
     pub pool-goes : (new : OwnedView P) (more : List DeviceCall) (left : List LogRecord) (so : List (List LogRecord) → ℕ → List LogRecord → Type 0)
-        → Legal new.core.parameters new.core.past → PoolLife new.core.past (more ++ calls) synced → Did page_reads page_writes page_syncs old.port more new.port → reverse (changes_of commits) ≡ left ++ writes_of new.core.past
+        → Legal new.core.parameters new.core.past → PoolFrom cut.past cut.calls new.core.past (more ++ calls) synced → (not old_log.is_ended ≡ true → some sync_failed (more ++ calls) ≡ false) → Did page_reads page_writes page_syncs old.port more new.port
+        → reverse (changes_of (cut.commits ++ commits)) ≡ left ++ writes_of new.core.past
         → durable new.core.past < start + records → ((p : ℕ) → some (discards p) new.core.past ≡ false) → so commits records left → Goes old new old_log old_log calls log_calls so
-    pool-goes new more left so legal life did told mark kept p = record {
+    pool-goes new more left so legal life unfailed did told mark kept p = record {
       more = more;
       more_log = [];
       synced = synced;
@@ -229,7 +239,9 @@ module _ {S P : Type 0} (reads writes : Transfer S) (syncs : StoreSync S) (page_
           log = is.ran.log;
           are = is.ran.are;
           legal = legal;
+          cut_is = is.ran.cut_is;
           pool = life;
+          unfailed = unfailed;
           written = told;
           mark = mark;
           named = is.ran.named;
@@ -244,7 +256,7 @@ module _ {S P : Type 0} (reads writes : Transfer S) (syncs : StoreSync S) (page_
     pool-same new so core port p =
         let past = ap (λ (x : CoreView). x.past) core in
         pool-goes new [] pending so
-        (subst (λ (x : CoreView). Legal x.parameters x.past) (sym core) is.ran.legal) (subst (λ (t : Trail). PoolLife t calls synced) (sym past) is.ran.pool) port
+        (subst (λ (x : CoreView). Legal x.parameters x.past) (sym core) is.ran.legal) (subst (λ (t : Trail). PoolFrom cut.past cut.calls t calls synced) (sym past) is.ran.pool) is.ran.unfailed port
         (is.ran.written ∙ ap (λ (t : Trail). pending ++ writes_of t) (sym past)) (subst (λ (t : Trail). durable t < start + records) (sym past) is.ran.mark)
         (λ q. subst (λ (t : Trail). some (discards q) t ≡ false) (sym past) (is.ran.kept q)) p
 
@@ -256,7 +268,7 @@ module _ {S P : Type 0} (reads writes : Transfer S) (syncs : StoreSync S) (page_
         let past : new.core.past ≡ e ∷ old.core.past = ap (λ (x : CoreView). x.past) adds.is in
         let next = is.file_is.next alive in
         let m = is.ran.mark in
-        pool-goes new [] pending (λ after n left. (after ≡ commits) × (left ≡ pending) × (n ≡ 1 + length commits)) adds.legal (subst (λ (t : Trail). PoolLife t calls synced) (sym past) (entered e refl is.ran.pool)) port
+        pool-goes new [] pending (λ after n left. (after ≡ commits) × (left ≡ pending) × (n ≡ 1 + length commits)) adds.legal (subst (λ (t : Trail). PoolFrom cut.past cut.calls t calls synced) (sym past) (entered e refl is.ran.pool)) is.ran.unfailed port
         (is.ran.written ∙ ap (λ (t : Trail). pending ++ writes_of t) (sym past))
         (subst (λ (t : Trail). durable t < start + records) (sym past) (max-below lsn (durable old.core.past) (start + records) (omega (arith, is-lsn, next, all, length-map commits payload_of)) m))
         (λ q. subst (λ (t : Trail). some (discards q) t ≡ false) (sym past) (ap (λ (b : Bool). b || some (discards q) old.core.past) (keeps e q refl) ∙ is.ran.kept q)) (refl, refl, all)
@@ -337,17 +349,17 @@ page-quiet {P = P} old new page result h = elim (cases_lt page old.core.paramete
   | inr le ↦ added-none old.core new.core (ap (λ (x : OwnedView P). x.core) (h.1 le).1)
 ]
 
-module _ {S P : Type 0} (reads writes : Transfer S) (syncs : StoreSync S) (page_reads : Reads P) (page_writes : Writes P) (page_syncs : Syncs P) (table file : List ℕ) (start : ℕ)
+module _ {S P : Type 0} (reads writes : Transfer S) (syncs : StoreSync S) (page_reads : Reads P) (page_writes : Writes P) (page_syncs : Syncs P) (table : List ℕ) (cut : Cut) (file : List ℕ) (start : ℕ)
     (synced : Trail) (calls : List DeviceCall) (log_calls : List FileCall) (commits : List (List LogRecord)) (records : ℕ) (pending : List LogRecord) (old : OwnedView P) (old_log : LogFile S)
-    (is : IsTable table file start synced calls log_calls commits records pending old old_log) where
+    (is : IsTable table cut file start synced calls log_calls commits records pending old old_log) where
   -- a page was fixed, or not
   pub pool-fixes : (new : OwnedView P) (so : List (List LogRecord) → ℕ → List LogRecord → Type 0) → AddsQuiet old.core new.core → DoesWork page_reads page_writes old.core old.port new.core new.port → Legal new.core.parameters new.core.past → so commits records pending
-      → TableGoes reads writes syncs page_reads page_writes page_syncs old new old_log old_log table file start calls log_calls so
+      → TableGoes reads writes syncs page_reads page_writes page_syncs old new old_log old_log table cut file start calls log_calls so
   pool-fixes new so adds work legal p =
-      let worked = works page_reads page_writes page_syncs old.core.past synced work.piece calls old.port new.port is.ran.pool work.through in
+      let worked = works page_reads page_writes page_syncs cut.past cut.calls old.core.past synced work.piece calls old.port new.port is.ran.pool work.through in
       let past : new.core.past ≡ work.piece ++ old.core.past = ap (λ (x : CoreView). x.past) work.is in
-      pool-goes reads writes syncs page_reads page_writes page_syncs table file start synced calls log_calls commits records pending old old_log is new worked.0 pending so legal
-      (subst (λ (t : Trail). PoolLife t (worked.0 ++ calls) synced) (sym past) worked.2) worked.1
+      pool-goes reads writes syncs page_reads page_writes page_syncs table cut file start synced calls log_calls commits records pending old old_log is new worked.0 pending so legal
+      (subst (λ (t : Trail). PoolFrom cut.past cut.calls t (worked.0 ++ calls) synced) (sym past) worked.2) (λ yes. none-added worked.0 calls worked.3 (is.ran.unfailed yes)) worked.1
       (is.ran.written ∙ ap (λ (rs : List LogRecord). pending ++ rs) (sym (ap writes_of adds.past ∙ quiet-writes adds.piece old.core.past adds.quiet)))
       (subst (λ (n : ℕ). n < start + records) (sym (ap durable adds.past ∙ quiet-marks adds.piece old.core.past adds.quiet)) is.ran.mark)
       (λ q. subst (λ (t : Trail). some (discards q) t ≡ false) (sym adds.past) (quiet-keeps adds.piece old.core.past q adds.quiet (is.ran.kept q))) p
@@ -385,44 +397,44 @@ part-refused {P = P} old new pass offset bytes lsn why h = elim (cases_lt old.co
   | inr le ↦ write-refused (Unit {0}) old.core new.core pass offset bytes lsn why (h.0 le)
 ]
 
-module _ {S P : Type 0} (reads writes : Transfer S) (syncs : StoreSync S) (page_reads : Reads P) (page_writes : Writes P) (page_syncs : Syncs P) (table file : List ℕ) (start : ℕ)
+module _ {S P : Type 0} (reads writes : Transfer S) (syncs : StoreSync S) (page_reads : Reads P) (page_writes : Writes P) (page_syncs : Syncs P) (table : List ℕ) (cut : Cut) (file : List ℕ) (start : ℕ)
     (synced : Trail) (calls : List DeviceCall) (log_calls : List FileCall) (commits : List (List LogRecord)) (records : ℕ) (pending : List LogRecord) (old : OwnedView P) (old_log : LogFile S)
-    (is : IsTable table file start synced calls log_calls commits records pending old old_log) where
+    (is : IsTable table cut file start synced calls log_calls commits records pending old old_log) where
   -- a change was written that was pending
   pub pool-writes : (new : OwnedView P) (so : List (List LogRecord) → ℕ → List LogRecord → Type 0) (pass : Pass) (r : LogRecord) (older : List LogRecord) → pending ≡ older ++ r ∷ [] → pass.page ≡ r.page
       → Adds old.core pass.client (Write pass.serial pass.page r.offset r.bytes r.lsn) Done new.core → new.port ≡ old.port → so commits records older
-      → TableGoes reads writes syncs page_reads page_writes page_syncs old new old_log old_log table file start calls log_calls so
+      → TableGoes reads writes syncs page_reads page_writes page_syncs old new old_log old_log table cut file start calls log_calls so
   pool-writes new so pass r older told page adds port p =
       let e : Entry = record { client = pass.client; call = Write pass.serial pass.page r.offset r.bytes r.lsn; reply = Done } in
       let past : new.core.past ≡ e ∷ old.core.past = ap (λ (x : CoreView). x.past) adds.is in
       let same : record_of e.call ≡ r = ap (λ (n : ℕ). record { page = n; offset = r.offset; bytes = r.bytes; lsn = r.lsn }) page in
-      let moved : reverse (changes_of commits) ≡ older ++ r ∷ writes_of old.core.past =
+      let moved : reverse (changes_of (cut.commits ++ commits)) ≡ older ++ r ∷ writes_of old.core.past =
       is.ran.written ∙ ap (λ (xs : List LogRecord). xs ++ writes_of old.core.past) told ∙ append_assoc older (r ∷ []) (writes_of old.core.past) in
-      pool-goes reads writes syncs page_reads page_writes page_syncs table file start synced calls log_calls commits records pending old old_log is new [] older so adds.legal
-      (subst (λ (t : Trail). PoolLife t calls synced) (sym past) (entered e refl is.ran.pool)) port
+      pool-goes reads writes syncs page_reads page_writes page_syncs table cut file start synced calls log_calls commits records pending old old_log is new [] older so adds.legal
+      (subst (λ (t : Trail). PoolFrom cut.past cut.calls t calls synced) (sym past) (entered e refl is.ran.pool)) is.ran.unfailed port
       (moved ∙ ap (λ (x : LogRecord). older ++ x ∷ writes_of old.core.past) (sym same) ∙ ap (λ (t : Trail). older ++ writes_of t) (sym past))
       (subst (λ (t : Trail). durable t < start + records) (sym past) is.ran.mark)
       (λ q. subst (λ (t : Trail). some (discards q) t ≡ false) (sym past) (ap (λ (b : Bool). b || some (discards q) old.core.past) (keeps e q refl) ∙ is.ran.kept q)) p
 
   -- a pass went back, or was not known
   pub pool-unfixes : (new : OwnedView P) (so : List (List LogRecord) → ℕ → List LogRecord → Type 0) (pass : Pass) (result : Result (Unit {0}) Pass) → UnfixOutcome old.core pass result new.core → new.port ≡ old.port → so commits records pending
-      → TableGoes reads writes syncs page_reads page_writes page_syncs old new old_log old_log table file start calls log_calls so
-  pool-unfixes new so pass (Err same) h port p = pool-same reads writes syncs page_reads page_writes page_syncs table file start synced calls log_calls commits records pending old old_log is new so h.2 port p
+      → TableGoes reads writes syncs page_reads page_writes page_syncs old new old_log old_log table cut file start calls log_calls so
+  pool-unfixes new so pass (Err same) h port p = pool-same reads writes syncs page_reads page_writes page_syncs table cut file start synced calls log_calls commits records pending old old_log is new so h.2 port p
   pool-unfixes new so pass (Ok done) h port p =
       let e : Entry = record { client = pass.client; call = Unfix pass.serial pass.page; reply = Done } in
       let past : new.core.past ≡ e ∷ old.core.past = ap (λ (x : CoreView). x.past) h.1.is in
-      pool-goes reads writes syncs page_reads page_writes page_syncs table file start synced calls log_calls commits records pending old old_log is new [] pending so h.1.legal
-      (subst (λ (t : Trail). PoolLife t calls synced) (sym past) (entered e refl is.ran.pool)) port
+      pool-goes reads writes syncs page_reads page_writes page_syncs table cut file start synced calls log_calls commits records pending old old_log is new [] pending so h.1.legal
+      (subst (λ (t : Trail). PoolFrom cut.past cut.calls t calls synced) (sym past) (entered e refl is.ran.pool)) is.ran.unfailed port
       (is.ran.written ∙ ap (λ (t : Trail). pending ++ writes_of t) (sym past))
       (subst (λ (t : Trail). durable t < start + records) (sym past) is.ran.mark)
       (λ q. subst (λ (t : Trail). some (discards q) t ≡ false) (sym past) (ap (λ (b : Bool). b || some (discards q) old.core.past) (keeps e q refl) ∙ is.ran.kept q)) p
 
   -- the record of a commit was appended, or not
-  pub log-appends : (new_log : LogFile S) (commit : List LogRecord) (so : List (List LogRecord) → ℕ → List LogRecord → Type 0) → pending ≡ [] → AreChanges (start + 1 + length commits) commit
+  pub log-appends : (new_log : LogFile S) (commit : List LogRecord) (so : List (List LogRecord) → ℕ → List LogRecord → Type 0) → (not new_log.is_ended ≡ true → not old_log.is_ended ≡ true) → pending ≡ [] → AreChanges (start + 1 + length commits) commit
       → GoesOn reads writes syncs old_log new_log file start log_calls (λ after n. (n ≡ records) × (after ≡ log_of table commits ++ payload_of commit ∷ []))
       → so (commits ++ commit ∷ []) records (reverse commit)
-      → TableGoes reads writes syncs page_reads page_writes page_syncs old old old_log new_log table file start calls log_calls so
-  log-appends new_log commit so none are g p =
+      → TableGoes reads writes syncs page_reads page_writes page_syncs old old old_log new_log table cut file start calls log_calls so
+  log-appends new_log commit so still none are g p =
       let pushed : log_of table (commits ++ commit ∷ []) ≡ log_of table commits ++ payload_of commit ∷ [] = ap (λ (t : List (List ℕ)). table ∷ t) (map_push payload_of commits commit) in
       let log-is : g.log ≡ log_of table (commits ++ commit ∷ []) = g.is_so.1 ∙ sym pushed in
       let there : IsLogFile file start (g.more ++ log_calls) (log_of table (commits ++ commit ∷ [])) records new_log =
@@ -441,8 +453,11 @@ module _ {S P : Type 0} (reads writes : Transfer S) (syncs : StoreSync S) (page_
             log = there.life;
             are = commits-push (start + 1) commits commit is.ran.are are;
             legal = is.ran.legal;
+            cut_is = is.ran.cut_is;
             pool = is.ran.pool;
-            written = ap reverse (changes_of-push commits commit) ∙ reverse-append (changes_of commits) commit
+            unfailed = λ yes. is.ran.unfailed (still yes);
+            written = ap (λ (cs : List (List LogRecord)). reverse (changes_of cs)) (sym (append_assoc cut.commits commits (commit ∷ [])))
+                ∙ ap reverse (changes_of-push (cut.commits ++ commits) commit) ∙ reverse-append (changes_of (cut.commits ++ commits)) commit
                 ∙ ap (λ (t : List LogRecord). reverse commit ++ t) (is.ran.written ∙ ap (λ (t : List LogRecord). t ++ writes_of old.core.past) none);
             mark = is.ran.mark;
             named = is.ran.named;
@@ -454,22 +469,22 @@ module _ {S P : Type 0} (reads writes : Transfer S) (syncs : StoreSync S) (page_
       }
 
   -- the log refused a record: it has it, or has not
-  pub log-refuses : (new_log : LogFile S) (commit : List LogRecord) (A : List (List ℕ) → ℕ → Type 0) (so : List (List LogRecord) → ℕ → List LogRecord → Type 0) → pending ≡ [] → AreChanges (start + 1 + length commits) commit
+  pub log-refuses : (new_log : LogFile S) (commit : List LogRecord) (A : List (List ℕ) → ℕ → Type 0) (so : List (List LogRecord) → ℕ → List LogRecord → Type 0) → (not new_log.is_ended ≡ true → not old_log.is_ended ≡ true) → pending ≡ [] → AreChanges (start + 1 + length commits) commit
       → GoesOn reads writes syncs old_log new_log file start log_calls (λ after n. (n ≡ records) × A after n × ((after ≡ log_of table commits) ⊎ (after ≡ log_of table commits ++ payload_of commit ∷ [])))
       → so commits records [] → so (commits ++ commit ∷ []) records (reverse commit)
-      → TableGoes reads writes syncs page_reads page_writes page_syncs old old old_log new_log table file start calls log_calls so
-  log-refuses new_log commit A so none are g p q = go g.is_so.2
+      → TableGoes reads writes syncs page_reads page_writes page_syncs old old old_log new_log table cut file start calls log_calls so
+  log-refuses new_log commit A so still none are g p q = go g.is_so.2
     where
-      go : (g.log ≡ log_of table commits) ⊎ (g.log ≡ log_of table commits ++ payload_of commit ∷ []) → TableGoes reads writes syncs page_reads page_writes page_syncs old old old_log new_log table file start calls log_calls so
-      go (inr e) = log-appends new_log commit so none are (record { more = g.more; log = g.log; durable = g.durable; did = g.did; is = g.is; is_so = (g.is_so.0, e) }) q
+      go : (g.log ≡ log_of table commits) ⊎ (g.log ≡ log_of table commits ++ payload_of commit ∷ []) → TableGoes reads writes syncs page_reads page_writes page_syncs old old old_log new_log table cut file start calls log_calls so
+      go (inr e) = log-appends new_log commit so still none are (record { more = g.more; log = g.log; durable = g.durable; did = g.did; is = g.is; is_so = (g.is_so.0, e) }) q
       go (inl e) =
-          table-weaken reads writes syncs page_reads page_writes page_syncs table file start old old old_log new_log calls log_calls (λ after n left. (after ≡ commits) × (left ≡ pending) × (n ≡ records)) so
+          table-weaken reads writes syncs page_reads page_writes page_syncs table cut file start old old old_log new_log calls log_calls (λ after n left. (after ≡ commits) × (left ≡ pending) × (n ≡ records)) so
           (λ cs n left h. subst (λ (c : List (List LogRecord)). so c n left) (sym h.0) (subst (λ (k : ℕ). so commits k left) (sym h.2) (subst (λ (l : List LogRecord). so commits records l) (sym (h.1 ∙ none)) p)))
-          (log-same new_log (record { more = g.more; log = g.log; durable = g.durable; did = g.did; is = g.is; is_so = (e, g.is_so.0) }))
+          (log-same new_log still (record { more = g.more; log = g.log; durable = g.durable; did = g.did; is = g.is; is_so = (e, g.is_so.0) }))
         where
-          log-same : (new_log : LogFile S) → GoesOn reads writes syncs old_log new_log file start log_calls (λ after n. (after ≡ log_of table commits) × (n ≡ records))
-              → TableGoes reads writes syncs page_reads page_writes page_syncs old old old_log new_log table file start calls log_calls (λ after n left. (after ≡ commits) × (left ≡ pending) × (n ≡ records))
-          log-same new_log g =
+          log-same : (new_log : LogFile S) → (not new_log.is_ended ≡ true → not old_log.is_ended ≡ true) → GoesOn reads writes syncs old_log new_log file start log_calls (λ after n. (after ≡ log_of table commits) × (n ≡ records))
+              → TableGoes reads writes syncs page_reads page_writes page_syncs old old old_log new_log table cut file start calls log_calls (λ after n left. (after ≡ commits) × (left ≡ pending) × (n ≡ records))
+          log-same new_log still g =
               let there : IsLogFile file start (g.more ++ log_calls) (log_of table commits) records new_log =
               subst (λ (n : ℕ). IsLogFile file start (g.more ++ log_calls) (log_of table commits) n new_log) g.is_so.1 (subst (λ (xs : List (List ℕ)). IsLogFile file start (g.more ++ log_calls) xs g.durable new_log) g.is_so.0 g.is) in
               record {
@@ -482,7 +497,7 @@ module _ {S P : Type 0} (reads writes : Transfer S) (syncs : StoreSync S) (page_
                 did = refl;
                 log_did = g.did;
                 is = record {
-                  ran = record { log = there.life; are = is.ran.are; legal = is.ran.legal; pool = is.ran.pool; written = is.ran.written; mark = is.ran.mark; named = is.ran.named; kept = is.ran.kept };
+                  ran = record { log = there.life; are = is.ran.are; legal = is.ran.legal; cut_is = is.ran.cut_is; pool = is.ran.pool; unfailed = λ yes. is.ran.unfailed (still yes); written = is.ran.written; mark = is.ran.mark; named = is.ran.named; kept = is.ran.kept };
                   file_is = there;
                 };
                 is_so = (refl, refl, refl);
@@ -506,13 +521,15 @@ pending-next lsn xs i r below is =
 -- ---- a table that begins
 
 pub table-begins : {S P : Type 0} (table file : List ℕ) (start : ℕ) (log_calls : List FileCall) (pool : OwnedView P) (log : LogFile S) → pool.core.past ≡ [] → IsLogFile file start log_calls (table ∷ []) 1 log
-    → IsTable table file start [] [] log_calls [] 1 [] pool log
+    → IsTable table no_cut file start [] [] log_calls [] 1 [] pool log
 table-begins table file start log_calls pool log none is = record {
   ran = record {
     log = is.life;
     are = tt;
     legal = subst (λ (t : Trail). Legal pool.core.parameters t) (sym none) tt;
-    pool = subst (λ (t : Trail). PoolLife t [] []) (sym none) opened;
+    cut_is = record { life = opened; saved = λ p. refl; written = refl; below = tt };
+    pool = subst (λ (t : Trail). PoolFrom [] [] t [] []) (sym none) opened;
+    unfailed = λ yes. refl;
     written = ap writes_of (sym none);
     mark = subst (λ (t : Trail). durable t < start + 1) (sym none) (omega arith);
     named = omega arith;

@@ -18,5 +18,6 @@ pub mod PoolLives
 -- A table, as its calls leave it.
 pub mod Tables
 pub mod TableCalls
--- Which of two files has the log, and what an opening does.
+-- Which of two files has the log, and what an opening and a checkpoint do.
 pub mod Opening
+pub mod Checkpoints

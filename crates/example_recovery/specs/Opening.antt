@@ -13,7 +13,7 @@ use Rattle.bp_page.specs.declared.refusals.Refusal.TheVariants.{OutOfPage}
 use Rattle.example_recovery.specs.Heads.{OtherHead, ReadFault}
 use Rattle.example_recovery.specs.Commits.{HasCommits, log_of}
 use Rattle.example_recovery.specs.Disk.{DeviceCall, Reads, Writes, Syncs, Did}
-use Rattle.example_recovery.specs.Files.{FileCall, FileDid, FileLeaves, failed, written}
+use Rattle.example_recovery.specs.Files.{FileCall, FileDid, FileLeaves, failed, synced, written}
 use Rattle.example_recovery.specs.Frames.{IsRecord, NoFrame, frame}
 use Rattle.example_recovery.specs.Lives.{LogLife, Reopened, whole}
 use Rattle.example_recovery.specs.LogFiles.{BeginFault, IsLogFile, IsUnread, Settles, Wipes, WipesFile}
@@ -154,14 +154,21 @@ abbrev pub IsOnlyRead : {S : Type 0} → Transfer S → Transfer S → StoreSync
 IsOnlyRead reads writes syncs old new =
     (calls : List FileCall) × FileDid reads writes syncs old.store calls new.store × AreReads calls
 
--- what a crash leaves of a file has no record at its front
+-- no record stands at the front of a file, whatever a crash leaves of it
+pub record IsEmptied (file : List ℕ) (calls : List FileCall) : Type 0 where
+  pub well : failed calls ≡ false
+  pub long : length (written file calls) ≡ length file
+  pub last : NoFrame (written file calls)
+  pub durably : NoFrame (synced file calls)
+  pub left : (bytes : List ℕ) → FileLeaves file calls bytes → NoFrame bytes
+
 abbrev pub EmptiesFile : {S : Type 0} → Transfer S → Transfer S → StoreSync S → LogFile S → LogFile S
     → Type 0
 EmptiesFile reads writes syncs old new =
     (file : List ℕ) (before : List FileCall) → failed before ≡ false
     → length (written file before) ≡ length file → old.size ≡ length file
     → (more : List FileCall) × FileDid reads writes syncs old.store more new.store
-    × ((left : List ℕ) → FileLeaves file (more ++ before) left → NoFrame left)
+    × IsEmptied file (more ++ before)
 
 -- two files of one size were read, and no record stands at the front of either
 pub record AreBlank {S : Type 0} (reads : Transfer S) (one two mid_one mid_two : LogFile S)

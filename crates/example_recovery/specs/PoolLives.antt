@@ -18,26 +18,31 @@ ends_work (ReadEnd ticket p image) = true
 ends_work (WriteEnd ticket p good) = true
 ends_work _ = false
 
--- Each read and each write of the device is one call, which an entry ends, and a write goes out as it
--- began.
-pub data PoolLife : Trail → List DeviceCall → Trail → Type 0 where
-  opened : PoolLife [] [] []
+-- From entries and calls on, all of which were durable. Each read and each write of the device is one
+-- call, which an entry ends, and a write goes out as it began.
+pub data PoolFrom (begun : Trail) (begun_calls : List DeviceCall)
+    : Trail → List DeviceCall → Trail → Type 0 where
+  opened : PoolFrom begun begun_calls begun begun_calls begun
   entered : {past synced : Trail} {calls : List DeviceCall} (e : Entry) → ends_work e.call ≡ false
-      → PoolLife past calls synced → PoolLife (e ∷ past) calls synced
+      → PoolFrom begun begun_calls past calls synced → PoolFrom begun begun_calls (e ∷ past) calls synced
   read : {past synced : Trail} {calls : List DeviceCall} (e : Entry) (ticket p : ℕ) (image : List ℕ)
-      → e.call ≡ ReadEnd ticket p (Some image) → PoolLife past calls synced
-      → PoolLife (e ∷ past) (DeviceCall.Read p image ∷ calls) synced
+      → e.call ≡ ReadEnd ticket p (Some image) → PoolFrom begun begun_calls past calls synced
+      → PoolFrom begun begun_calls (e ∷ past) (DeviceCall.Read p image ∷ calls) synced
   not_read : {past synced : Trail} {calls : List DeviceCall} (e : Entry) (ticket p : ℕ)
-      → e.call ≡ ReadEnd ticket p None → PoolLife past calls synced
-      → PoolLife (e ∷ past) (DeviceCall.NotRead p ∷ calls) synced
+      → e.call ≡ ReadEnd ticket p None → PoolFrom begun begun_calls past calls synced
+      → PoolFrom begun begun_calls (e ∷ past) (DeviceCall.NotRead p ∷ calls) synced
   wrote : {older synced : Trail} {calls : List DeviceCall} (e f : Entry) (ticket p : ℕ)
       (image : List ℕ) (good : Bool) → e.call ≡ WriteEnd ticket p good
-      → f.reply ≡ WriteFirst ticket p image → PoolLife (f ∷ older) calls synced
-      → PoolLife (e ∷ f ∷ older) (DeviceCall.Write p image good ∷ calls) synced
+      → f.reply ≡ WriteFirst ticket p image → PoolFrom begun begun_calls (f ∷ older) calls synced
+      → PoolFrom begun begun_calls (e ∷ f ∷ older) (DeviceCall.Write p image good ∷ calls) synced
   was_synced : {past synced : Trail} {calls : List DeviceCall} (good : Bool)
-      → PoolLife past calls synced
-      → PoolLife past (DeviceCall.Sync good ∷ calls)
+      → PoolFrom begun begun_calls past calls synced
+      → PoolFrom begun begun_calls past (DeviceCall.Sync good ∷ calls)
       (if good && not (some sync_failed calls) then past else synced)
+
+-- from nothing on
+abbrev pub PoolLife : Trail → List DeviceCall → Trail → Type 0
+PoolLife = PoolFrom [] []
 
 -- no write of page p failed; and none has come since the last good sync before which none had
 abbrev pub NoneFailed : ℕ → List DeviceCall → Type 0

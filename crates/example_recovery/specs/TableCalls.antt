@@ -9,17 +9,18 @@ use Rattle.example_recovery.specs.Commits.{log_of}
 use Rattle.example_recovery.specs.Disk.{DeviceCall, Reads, Writes, Syncs, Did}
 use Rattle.example_recovery.specs.Files.{FileCall, FileDid}
 use Rattle.example_recovery.specs.LogFiles.{IsLogFile}
-use Rattle.example_recovery.specs.Tables.{TableRan}
+use Rattle.example_recovery.specs.Tables.{Cut, TableRan}
 
 -- a change under an LSN
 abbrev pub under : ℕ → LogRecord → LogRecord
 under lsn r = record r { lsn = lsn }
 
 -- a pool and a log that are as these calls left them
-pub record IsTable {S P : Type 0} (table file : List ℕ) (start : ℕ) (synced : Trail)
-    (calls : List DeviceCall) (log_calls : List FileCall) (commits : List (List LogRecord))
-    (durable : ℕ) (pending : List LogRecord) (pool : OwnedView P) (log : LogFile S) : Type 0 where
-  pub ran : TableRan pool.core.parameters table file start (not log.is_ended) pool.core.past synced
+pub record IsTable {S P : Type 0} (table : List ℕ) (cut : Cut) (file : List ℕ) (start : ℕ)
+    (synced : Trail) (calls : List DeviceCall) (log_calls : List FileCall)
+    (commits : List (List LogRecord)) (durable : ℕ) (pending : List LogRecord) (pool : OwnedView P)
+    (log : LogFile S) : Type 0 where
+  pub ran : TableRan pool.core.parameters table cut file start (not log.is_ended) pool.core.past synced
       calls log_calls commits durable pending
   pub file_is : IsLogFile file start log_calls (log_of table commits) durable log
 
@@ -27,9 +28,9 @@ pub record IsTable {S P : Type 0} (table file : List ℕ) (start : ℕ) (synced 
 -- that are so
 pub record TableGoes {S P : Type 0} (reads writes : Transfer S) (syncs : StoreSync S)
     (page_reads : Reads P) (page_writes : Writes P) (page_syncs : Syncs P) (old new : OwnedView P)
-    (old_log new_log : LogFile S) (table file : List ℕ) (start : ℕ) (calls : List DeviceCall)
-    (log_calls : List FileCall) (so : List (List LogRecord) → ℕ → List LogRecord → Type 0)
-    : Type 0 where
+    (old_log new_log : LogFile S) (table : List ℕ) (cut : Cut) (file : List ℕ) (start : ℕ)
+    (calls : List DeviceCall) (log_calls : List FileCall)
+    (so : List (List LogRecord) → ℕ → List LogRecord → Type 0) : Type 0 where
   pub more : List DeviceCall
   pub more_log : List FileCall
   pub synced : Trail
@@ -38,7 +39,7 @@ pub record TableGoes {S P : Type 0} (reads writes : Transfer S) (syncs : StoreSy
   pub pending : List LogRecord
   pub did : Did page_reads page_writes page_syncs old.port more new.port
   pub log_did : FileDid reads writes syncs old_log.store more_log new_log.store
-  pub is : IsTable table file start synced (more ++ calls) (more_log ++ log_calls) commits durable
+  pub is : IsTable table cut file start synced (more ++ calls) (more_log ++ log_calls) commits durable
       pending new new_log
   pub is_so : so commits durable pending
 
@@ -48,8 +49,9 @@ abbrev pub TableDoes : {S P : Type 0} → Transfer S → Transfer S → StoreSyn
     → (List (List LogRecord) → ℕ → List LogRecord → List (List LogRecord) → ℕ → List LogRecord
     → Type 0) → Type 0
 TableDoes reads writes syncs page_reads page_writes page_syncs old new old_log new_log so =
-    (table file : List ℕ) (start records : ℕ) (synced : Trail) (calls : List DeviceCall)
-    (log_calls : List FileCall) (commits : List (List LogRecord)) (pending : List LogRecord)
-    → IsTable table file start synced calls log_calls commits records pending old old_log
-    → TableGoes reads writes syncs page_reads page_writes page_syncs old new old_log new_log table
+    (table : List ℕ) (cut : Cut) (file : List ℕ) (start records : ℕ) (synced : Trail)
+    (calls : List DeviceCall) (log_calls : List FileCall) (commits : List (List LogRecord))
+    (pending : List LogRecord)
+    → IsTable table cut file start synced calls log_calls commits records pending old old_log
+    → TableGoes reads writes syncs page_reads page_writes page_syncs old new old_log new_log table cut
     file start calls log_calls (so commits records pending)

@@ -6,9 +6,10 @@
 //!
 //! The files are in the folder in which it runs: PAGES pages of SIZE bytes, and two logs of LOG bytes. `show` opens the
 //! table, and prints the number of the commit that each row is from. `work` does so LIVES times, and each time commits
-//! until COMMITS are made or the log is full, and then stops as a process that dies: what was not made durable may be
-//! lost. A commit has up to CHANGES changes, which come from SEED and its number. Each EVERY commits are made durable,
-//! and acknowledged by a line. Where IMAGES is 1, the first change of a page since it was opened is of the whole page.
+//! until COMMITS are made, and then stops as a process that dies: what was not made durable may be lost. Where the log
+//! is full it makes a checkpoint. A commit has up to CHANGES changes, which come from SEED and its number. Each EVERY
+//! commits are made durable, and acknowledged by a line, and so is a checkpoint. Where IMAGES is 1, the first change of
+//! a page since the log was begun is of the whole page.
 
 use crate::frames::split_number;
 use crate::log::{LogFault, LogFile};
@@ -138,11 +139,20 @@ fn show(
     Ok(last)
 }
 
-/// Opens the table, and prints what it has. Returns its port, its log, and the number of its last commit.
+/// A table that was opened: its port, its log and the other file, and the number of its last commit.
+#[derive(Drop)]
+struct OpenTable {
+    port: FilePort,
+    log: LogFile<File>,
+    spare: LogFile<File>,
+    last: u64,
+}
+
+/// Opens the table, and prints what it has.
 fn opened(
     rt: &(impl Runtime<A = Global> + Files<File = File> + Wait),
     words: &Words,
-) -> Result<(FilePort, LogFile<File>, u64), anyhow::Error> {
+) -> Result<OpenTable, anyhow::Error> {
     let mut port = port_of(rt, words)?;
     let (mut one, mut two) = (
         log_file(rt, LOGS[0], words.log)?,
@@ -150,26 +160,51 @@ fn opened(
     );
     let is_second = open(rt, rt.alloc(), NAME, &mut port, &mut one, &mut two)?;
     let last = show(rt, &mut port, words.device.pages)?;
-    Ok((port, if is_second { two } else { one }, last))
+    let (log, spare) = if is_second { (two, one) } else { (one, two) };
+    Ok(OpenTable {
+        port,
+        log,
+        spare,
+        last,
+    })
 }
 
-/// Commits until the log is full.
+/// Commits the changes with this number. Where the log is full, it first makes a checkpoint, which is acknowledged.
+fn commit(
+    rt: &(impl Runtime<A = Global> + Wait),
+    words: &Words,
+    table: &mut Table<File, FilePort>,
+    spare: &mut LogFile<File>,
+    number: u64,
+    known: &mut Vec<u64>,
+) -> Result<(), anyhow::Error> {
+    let made = changes(rt.alloc(), words, number, known)?;
+    match table.commit(rt, rt.alloc(), &made) {
+        Ok(_) => return Ok(()),
+        Err(TableFault::Log(LogFault::Full)) => {}
+        Err(fault) => return Err(fault.into()),
+    }
+    table.checkpoint(rt, rt.alloc(), NAME, spare)?;
+    println!(rt; "checkpoint {}", number.wrapping_sub(1))?;
+    known.clear();
+    let made = changes(rt.alloc(), words, number, known)?;
+    table.commit(rt, rt.alloc(), &made)?;
+    Ok(())
+}
+
+/// Makes so many commits.
 fn commit_all(
     rt: &(impl Runtime<A = Global> + Wait),
     words: &Words,
     table: &mut Table<File, FilePort>,
+    spare: &mut LogFile<File>,
     last: u64,
 ) -> Result<(), anyhow::Error> {
     let mut known = Vec::new(rt.alloc());
     let mut number = last;
     for _ in 0..words.commits {
         number = number.wrapping_add(1);
-        let changes = changes(rt.alloc(), words, number, &mut known)?;
-        match table.commit(rt, rt.alloc(), &changes) {
-            Ok(_) => {}
-            Err(TableFault::Log(LogFault::Full)) => return Ok(()),
-            Err(fault) => return Err(fault.into()),
-        }
+        commit(rt, words, table, spare, number, &mut known)?;
         if number % words.every.max(1) == 0 {
             table.make_durable()?;
             println!(rt; "durable {number}")?;
@@ -183,10 +218,15 @@ fn live(
     rt: &(impl Runtime<A = Global> + Files<File = File> + Wait),
     words: &Words,
 ) -> Result<(), anyhow::Error> {
-    let (port, log, last) = opened(rt, words)?;
+    let OpenTable {
+        port,
+        log,
+        mut spare,
+        last,
+    } = opened(rt, words)?;
     let settings = Settings::new(2, 0, 1000)?;
     let mut table = Table::begin(rt.alloc(), port, settings, words.frames, log)?;
-    let done = commit_all(rt, words, &mut table, last);
+    let done = commit_all(rt, words, &mut table, &mut spare, last);
     drop(table);
     done
 }

@@ -1,5 +1,6 @@
 //! An engine that recovers, to copy: a table of rows, whose pages are in a pool for one owner, and whose commits are in
-//! a log. It commits, is stopped as by a crash, and is opened again. With arguments it is driven: see `driven.rt`.
+//! a log. It commits, makes a checkpoint, is stopped as by a crash, and is opened again. With arguments it is driven:
+//! see `driven.rt`.
 #![tactic(auto)]
 
 mod driven;
@@ -88,17 +89,17 @@ fn begin(
     Ok(Table::begin(rt.alloc(), port, Settings::new(2, 0, 1000)?, 2, log)?)
 }
 
-/// Makes both files of the log, and a table.
+/// Makes both files of the log, and a table. Returns the file that has not the log too.
 fn make(
     rt: &(impl Runtime<A = Global> + Files<File = File>),
     port: MemPort,
-) -> Result<Table<File, MemPort>, anyhow::Error> {
+) -> Result<(Table<File, MemPort>, LogFile<File>), anyhow::Error> {
     let (mut one, mut two) = (
         new_log(rt, LOGS[0], LOG_SIZE)?,
         new_log(rt, LOGS[1], LOG_SIZE)?,
     );
     create(rt.alloc(), NAME, &port.geometry(), &mut one, &mut two)?;
-    begin(rt, port, one)
+    Ok((begin(rt, port, one)?, two))
 }
 
 /// Commits these rows: the page of each, its number there, and its byte.
@@ -116,14 +117,19 @@ fn commit(
     Ok(())
 }
 
-/// Makes three commits, of which the last is not made durable.
+/// Makes two commits, a checkpoint, and a commit that is not made durable.
 fn work(
     rt: &(impl Runtime<A = Global> + Wait),
     table: &mut Table<File, MemPort>,
+    spare: &mut LogFile<File>,
 ) -> Result<(), anyhow::Error> {
     commit(rt, table, &[(1, 1, b'a'), (2, 0, b'b')])?;
     commit(rt, table, &[(1, 2, b'c'), (3, 3, b'd')])?;
-    table.make_durable()?;
+    table.checkpoint(rt, rt.alloc(), NAME, spare)?;
+    println!(rt;
+        "a checkpoint: the log begins at LSN {}",
+        table.log.next.saturating_sub(1)
+    )?;
     commit(rt, table, &[(2, 0, b'e')])
 }
 
@@ -150,8 +156,8 @@ fn main(rt: HostRuntime) -> Result<(), anyhow::Error> {
         return driven::drive(&rt, what, more);
     }
     let device = MemDevice::new(rt.alloc(), Geometry::new(4, 64)?)?;
-    let mut table = make(&rt, device.port()?)?;
-    let worked = work(&rt, &mut table);
+    let (mut table, mut spare) = make(&rt, device.port()?)?;
+    let worked = work(&rt, &mut table, &mut spare);
     // What the pool has in its frames is gone, as after a crash.
     drop(table);
     worked?;

@@ -3,7 +3,7 @@ ghost use Rattle.std.specs.Prelude.{◌≡◌, ◌+◌, ℕ, Bool, true, false, 
 ghost use Rattle.bp_page.specs.declared.refusals.Refusal.TheVariants.{OutOfPage};
 ghost use Rattle.bp_trail.specs.declared.records.LogRecord.{LogRecord as Record};
 ghost use Rattle.example_recovery.specs.Disk.{DeviceCall, Honest, MayBring, MayLeave};
-ghost use Rattle.example_recovery.specs.Files.{FileCall, FileLeaves, SettledLeaves, synced, written};
+ghost use Rattle.example_recovery.specs.Files.{FileCall, FileLeaves, IsSettled, SettledLeaves, synced, written};
 ghost use Rattle.example_recovery.specs.Heads.{head_of as head_is};
 ghost use Rattle.example_recovery.specs.Lives.{TellsTrue};
 ghost use Rattle.example_recovery.specs.LogFiles.{Wipes};
@@ -132,14 +132,15 @@ pub fn open<R: Wait, S: Store, P: Port>(
     Ok(true)
 }
 
-/// Stop an opening at any moment, by a loss of power or by the end of its process alone. What is found in both files then
-/// makes of the pages what they were to be, as often as it is stopped. Reads brought `seen` of the pages when it began,
-/// which a loss of power might have left too, and `first` is what it would have left. The newer log was written again
-/// before any page was.
-/// The other file may be as an opening left it that ended while it wiped it: it need not be durable, as long as no log
-/// that begins as late is in it, durably or not (`wiping`).
+/// Stop an opening at any moment, by a loss of power or by the end of its process alone. What is found in both files
+/// then makes of the pages what they were to be, as often as it is stopped. Reads brought `seen` of the pages when it
+/// began, which a loss of power might have left too, and `first` is what it would have left. The newer log was written
+/// again before any page was. The other file may be as an opening left it that ended while it wiped it: it need not be
+/// durable, as long as no log that begins as late is in it, durably or not (`wiping`).
+///
 /// When the opening is done each page is what it was to be, durably, and the log that was read begins before the one
-/// that goes on. It does nothing: its contract is the law. What is left before that is law `a_crash_is_mended`.
+/// that goes on, also as a checkpoint after it finds its file (`settled`). It does nothing: its contract is the law.
+/// What is left before that is law `a_crash_is_mended`.
 pub fn an_opening_may_be_stopped()
     ensures seen { (tears : Bool) (first : ℕ → List ℕ) (calls : List DeviceCall) (p : ℕ)
         (image : List ℕ) → MayBring tears first calls p image → MayLeave tears first calls p image }
@@ -173,6 +174,10 @@ pub fn an_opening_may_be_stopped()
         (length (written file (more ++ before)) ≡ length file)
         × BeginsBefore begun (synced file (more ++ before))
         × BeginsBefore begun (written file (more ++ before)) }
+    ensures settled { (table newer older file : List ℕ) (begun last : ℕ) (changes : List Record)
+        (calls : List FileCall) → (is : IsNewer table newer older begun last changes) →
+        IsSettled file (again_of is) calls → (length (written file calls) ≡ length (again_of is))
+        × BeginsBefore (last + 1) (synced file calls) × BeginsBefore (last + 1) (written file calls) }
     ensures done { (tears : Bool) (pages size : ℕ) (wanted seen first left : ℕ → List ℕ)
         (table newer older left_newer : List ℕ) (begun last : ℕ) (changes : List Record)
         (calls : List DeviceCall) →

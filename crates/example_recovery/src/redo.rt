@@ -1,19 +1,20 @@
 //! Redo after a crash: the records of a log are put into the pages of a device.
-ghost use Rattle.std.specs.Prelude.{◌≡◌, ◌⊎◌, ℕ, Bool, [], ◌∷◌, ◌++◌, List, Option, MatchOption, Result, length, reverse, is_ok, OnOk};
+ghost use Rattle.std.specs.Prelude.{◌≡◌, ◌⊎◌, ◌+◌, ◌<◌, ℕ, Bool, true, false, [], ◌∷◌, ◌++◌, List, Option, MatchOption, Result, length, reverse, is_ok, OnOk};
 ghost use Rattle.bp_trail.specs.declared.records.LogRecord.{LogRecord as Record};
 ghost use Rattle.bp_trail.specs.Parameters.{Parameters};
 ghost use Rattle.bp_trail.specs.Trail.{Trail};
 ghost use Rattle.bp_trail.specs.Images.{written_into};
 ghost use Rattle.bp_trail.specs.Recovery.{NeverFall, Stopped, put, records_from, redo, wanted, within};
-ghost use Rattle.example_recovery.specs.Commits.{Kept, log_of};
+ghost use Rattle.bp_trail.specs.Saved.{unsaved};
+ghost use Rattle.example_recovery.specs.Commits.{Kept, changes_of, log_of};
 ghost use Rattle.example_recovery.specs.Disk.{DeviceCall, Did, Honest, MayLeave};
-ghost use Rattle.example_recovery.specs.Files.{FileCall, FileLeaves, synced as synced_bytes, written as written_bytes};
-ghost use Rattle.example_recovery.specs.Lives.{Reopened, TellsTrue};
-ghost use Rattle.example_recovery.specs.Opening.{BeginsBefore, FindsLog};
-ghost use Rattle.example_recovery.specs.PoolLives.{IsSound};
+ghost use Rattle.example_recovery.specs.Files.{FileCall, FileLeaves, failed, synced as synced_bytes, written as written_bytes};
+ghost use Rattle.example_recovery.specs.Lives.{LogLife, Reopened, TellsTrue};
+ghost use Rattle.example_recovery.specs.Opening.{Beginning, BeginsBefore, FindsLog, MayBeOpened};
+ghost use Rattle.example_recovery.specs.PoolLives.{IsSound, NoneOpen};
 ghost use Rattle.example_recovery.specs.Promise.{IsMended, MayBeRedone, PoolLeaves, Recovers};
 ghost use Rattle.example_recovery.specs.Steps.{Begins, Redoes, Stamped, last_lsn};
-ghost use Rattle.example_recovery.specs.Tables.{TableRan};
+ghost use Rattle.example_recovery.specs.Tables.{Cut, TableRan};
 
 use bp_page::{Image, Lsn, PageNo, Refusal};
 use bp_ports::Port;
@@ -139,26 +140,65 @@ pub fn redo_pages<R: Wait, P: Port>(
     }
 }
 
-/// Stop a table at any moment of its device, by a loss of power or by the end of its process alone, and openings after it
-/// at any moment before they redo a page. What is found of its log, whatever the other file has from before, are then
-/// the first commits, each whole, and no fewer than were synced; and whatever the device has may be redone, to what these
-/// commits make of the first images. It does nothing: its contract is the law.
+/// Stop a table at any moment of its device since its log was begun, by a loss of power or by the end of its process
+/// alone, and openings after it at any moment before they redo a page. What is found of its log, whatever the other file
+/// has from before, are then the first commits, each whole, and no fewer than were synced; and whatever the device has may
+/// be redone, to what all commits before that log, and these, make of the first images. It does nothing: its contract is
+/// the law.
 pub fn a_crash_is_mended()
     ensures { (c : Parameters) (tears : Bool) (first left : ℕ → List ℕ)
-        (table file bytes other : List ℕ) (start : ℕ) (alive : Bool) (past synced : Trail)
+        (table file bytes other : List ℕ) (cut : Cut) (start : ℕ) (alive : Bool) (past synced : Trail)
         (calls later so_far : List DeviceCall) (log_calls opening_calls : List FileCall)
         (commits : List (List Record)) (kept : List (List ℕ)) (durable n found last : ℕ)
         (changes pending : List Record) →
-        TableRan c table file start alive past synced calls log_calls commits durable pending →
+        TableRan c table cut file start alive past synced calls log_calls commits durable pending →
         Reopened file start log_calls (log_of table commits) durable opening_calls kept n →
-        Honest tears first calls → ((p : ℕ) → length (first p) ≡ c.size) → calls ≡ later ++ so_far →
+        Honest tears first calls → ((p : ℕ) → length (first p) ≡ c.size) →
+        calls ≡ later ++ (so_far ++ cut.calls) →
         FileLeaves file opening_calls bytes → TellsTrue start (synced_bytes file opening_calls)
         (written_bytes file opening_calls) bytes →
-        BeginsBefore start other → ((p : ℕ) → MayLeave tears first so_far p (left p)) →
+        BeginsBefore start other → ((p : ℕ) → MayLeave tears first (so_far ++ cut.calls) p (left p)) →
         FindsLog table bytes other found last changes →
-        ((p : ℕ) → IsSound tears c.size 0 (reverse changes) so_far p) →
+        ((p : ℕ) → IsSound tears c.size 0 (reverse changes) (so_far ++ cut.calls) p) →
         Kept start durable commits found last changes × MayBeRedone tears c.size 0 (reverse changes)
-        (λ p. redo 0 (reverse changes) p (first p)) left }
+        (λ p. redo 0 (reverse (changes_of cut.commits ++ changes)) p (first p)) left }
+{}
+
+/// Stop a table within a checkpoint, once its pages are synced, whatever of the next log is begun: what is found then makes
+/// of the pages what all commits make of the first images. An opening may come, and end, while it makes what it read
+/// durable. When the next log has been begun, and also when a second checkpoint comes, the file of the log before it has
+/// none that begins as late, whatever a crash leaves of it (`follows`). No write of a page failed, or the device tears
+/// none. It does nothing: its contract is the law.
+pub fn a_checkpoint_may_be_stopped()
+    ensures moving { (c : Parameters) (tears : Bool) (first left : ℕ → List ℕ)
+        (table file other_file bytes other : List ℕ) (cut : Cut) (start : ℕ) (alive : Bool)
+        (past : Trail) (calls : List DeviceCall)
+        (log_calls opening_calls before other_calls : List FileCall) (commits : List (List Record))
+        (kept : List (List ℕ)) (n : ℕ) →
+        TableRan c table cut file start alive past past calls log_calls commits (1 + length commits) [] →
+        ((p : ℕ) → unsaved past p ≡ false) → Reopened file start log_calls (log_of table commits)
+        (1 + length commits) opening_calls kept n → Honest tears first calls →
+        ((p : ℕ) → length (first p) ≡ c.size) → FileLeaves file opening_calls bytes →
+        TellsTrue start (synced_bytes file opening_calls) (written_bytes file opening_calls) bytes →
+        length (written_bytes other_file before) ≡ length other_file →
+        BeginsBefore start (synced_bytes other_file before) →
+        BeginsBefore start (written_bytes other_file before) →
+        Beginning other_file (start + 1 + length commits) table before other_calls →
+        FileLeaves other_file other_calls other → TellsTrue (start + 1 + length commits)
+        (synced_bytes other_file other_calls) (written_bytes other_file other_calls) other →
+        ((p : ℕ) → MayLeave tears first calls p (left p)) →
+        ((p : ℕ) → IsSound tears c.size 0 (reverse (changes_of commits)) calls p) →
+        ((p : ℕ) → (tears ≡ false) ⊎ NoneOpen p calls) → MayBeOpened tears c.size table bytes other
+        (λ p. redo 0 (reverse (changes_of (cut.commits ++ commits))) p (first p)) left }
+    ensures follows { (file : List ℕ) (start to : ℕ) (alive : Bool) (calls later : List FileCall)
+        (log kept : List (List ℕ)) (durable n : ℕ) → LogLife file start alive calls log durable →
+        Reopened file start calls log durable later kept n → start < to →
+        (length (written_bytes file later) ≡ length file)
+        × BeginsBefore to (synced_bytes file later) × BeginsBefore to (written_bytes file later)
+        × ((left : List ℕ) → FileLeaves file later left → TellsTrue start (synced_bytes file later)
+        (written_bytes file later) left → BeginsBefore to left) }
+    ensures good { (file : List ℕ) (start : ℕ) (calls : List FileCall) (log : List (List ℕ))
+        (durable : ℕ) → LogLife file start true calls log durable → failed calls ≡ false }
 {}
 
 /// What a stopped pool leaves may be redone, to what the writes within its log make of the first images, and after

@@ -4,20 +4,24 @@ ghost use Rattle.bp_trail.specs.declared.records.LogRecord.{LogRecord as Record}
 ghost use Rattle.bp_trail.specs.Trail.{Trail};
 ghost use Rattle.example_recovery.specs.Commits.{AreChanges, payload_of};
 ghost use Rattle.example_recovery.specs.Disk.{DeviceCall};
-ghost use Rattle.example_recovery.specs.Files.{FileCall};
+ghost use Rattle.example_recovery.specs.Files.{FileCall, failed, written};
+ghost use Rattle.example_recovery.specs.Checkpoints.{Checkpoints, HasSaved};
+ghost use Rattle.example_recovery.specs.Heads.{head_of as head_is};
 ghost use Rattle.example_recovery.specs.LogFiles.{IsLogFile};
+ghost use Rattle.example_recovery.specs.Tables.{Cut, no_cut};
 ghost use Rattle.example_recovery.specs.TableCalls.{IsTable, TableDoes, TableGoes, under};
 ghost use Rattle.example_recovery.specs.declared.log.LogFault.TheVariants.{Memory};
 ghost use Rattle.example_recovery.specs.declared.table.TableFault.TheVariants.{Log, Pages};
 
 use crate::log::{LogFault, LogFile};
-use crate::reading::put_change;
+use crate::reading::{head_of, put_change};
 use bp_core::{Pass, Settings, SilentKeeper};
 use bp_device::OwnedPool;
 use bp_page::{Geometry, Lsn, PageNo, Refusal};
 use bp_ports::{Port, Store};
 use bp_trail::LogRecord;
 use std::alloc::{AllocError, Global};
+use std::mem;
 use std::sync::Wait;
 use thiserror::Error;
 
@@ -99,7 +103,7 @@ impl<S: Store, P: Port> Table<S, P> {
         ensures { IfOk result (λ made. (made.pool.port ≡ port) × (made.is_ended ≡ false)
             × ((table file : List ℕ) (start : ℕ) (log_calls : List FileCall) →
             IsLogFile file start log_calls (table ∷ []) 1 log →
-            IsTable table file start [] [] log_calls [] 1 [] made.pool made.log)) }
+            IsTable table no_cut file start [] [] log_calls [] 1 [] made.pool made.log)) }
     {
         let pool = OwnedPool::over(alloc, port, settings, frames, ROOM)?;
         Ok(Table {
@@ -111,10 +115,12 @@ impl<S: Store, P: Port> Table<S, P> {
 
     /// Makes each commit durable: syncs the log, and then raises the mark.
     pub fn make_durable(&mut self) -> Result<(), TableFault>
-        ensures { TableDoes S.reads S.writes S.syncs P.read_gives P.write_gives P.sync_gives
+        ensures goes { TableDoes S.reads S.writes S.syncs P.read_gives P.write_gives P.sync_gives
             self.old.pool self.new.pool self.old.log self.new.log
             (λ commits records pending after n left. (after ≡ commits) × (left ≡ pending)
             × OnOk result (n ≡ 1 + length commits)) }
+        ensures alive { OnOk result (self.new.log.is_ended ≡ false) }
+        ensures ended { self.new.is_ended ≡ self.old.is_ended }
     {
         if self.log.is_ended {
             return Err(TableFault::Log(LogFault::Ended));
@@ -155,13 +161,14 @@ impl<S: Store, P: Port> Table<S, P> {
 
     /// Makes the oldest change that is pending.
     fn put<R: Wait>(&mut self, rt: &R, change: &LogRecord, lsn: u64) -> Result<(), TableFault>
-        ensures { (older : List Record) → (table file : List ℕ) (start records : ℕ) (synced : Trail)
-            (calls : List DeviceCall) (log_calls : List FileCall) (commits : List (List Record))
-            (pending : List Record) → IsTable table file start synced calls log_calls commits records
-            pending self.old.pool self.old.log →
+        ensures { (older : List Record) → (table : List ℕ) (cut : Cut) (file : List ℕ)
+            (start records : ℕ) (synced : Trail) (calls : List DeviceCall)
+            (log_calls : List FileCall) (commits : List (List Record)) (pending : List Record) →
+            IsTable table cut file start synced calls log_calls commits records pending
+            self.old.pool self.old.log →
             pending ≡ older ++ under lsn change.now ∷ [] →
             TableGoes S.reads S.writes S.syncs P.read_gives P.write_gives P.sync_gives
-            self.old.pool self.new.pool self.old.log self.new.log table file start calls log_calls
+            self.old.pool self.new.pool self.old.log self.new.log table cut file start calls log_calls
             (λ after n left. (after ≡ commits) × ((left ≡ pending) ⊎ (left ≡ older))
             × OnOk result (left ≡ older)) }
     {
@@ -188,12 +195,12 @@ impl<S: Store, P: Port> Table<S, P> {
         ensures refused { OnErr result ((self.new.is_ended ≡ true)
             ⊎ ((self.new.pool ≡ self.old.pool) × (self.new.log ≡ self.old.log))) }
         ensures limit { IfOk result (λ lsn. lsn < 2 ^ 63) }
-        ensures goes { (table file : List ℕ) (start records : ℕ) (synced : Trail)
+        ensures goes { (table : List ℕ) (cut : Cut) (file : List ℕ) (start records : ℕ) (synced : Trail)
             (calls : List DeviceCall) (log_calls : List FileCall) (commits : List (List Record)) →
-            IsTable table file start synced calls log_calls commits records [] self.old.pool
+            IsTable table cut file start synced calls log_calls commits records [] self.old.pool
             self.old.log →
             TableGoes S.reads S.writes S.syncs P.read_gives P.write_gives P.sync_gives
-            self.old.pool self.new.pool self.old.log self.new.log table file start calls log_calls
+            self.old.pool self.new.pool self.old.log self.new.log table cut file start calls log_calls
             (λ after n left. ((after ≡ commits)
             ⊎ (after ≡ commits ++ map (under (start + 1 + length commits)) changes.now ∷ []))
             × (self.new.is_ended ≡ false → left ≡ [])
@@ -227,5 +234,75 @@ impl<S: Store, P: Port> Table<S, P> {
         }
         self.is_ended = false;
         Ok(lsn)
+    }
+
+    /// Writes out each unsaved page, and makes all pages durable. After a sync that failed the log has ended.
+    fn save_pages<R: Wait>(&mut self, rt: &R) -> Result<(), TableFault>
+        ensures goes { OnErr result (TableDoes S.reads S.writes S.syncs P.read_gives P.write_gives
+            P.sync_gives self.old.pool self.new.pool self.old.log self.new.log
+            (λ commits records pending after n left. (after ≡ commits) × (left ≡ pending))) }
+        ensures saved { (table : List ℕ) (cut : Cut) (file : List ℕ) (start records : ℕ)
+            (synced : Trail) (calls : List DeviceCall) (log_calls : List FileCall)
+            (commits : List (List Record)) (pending : List Record) →
+            IsTable table cut file start synced calls log_calls commits records pending
+            self.old.pool self.old.log → self.old.log.is_ended ≡ false →
+            OnOk result (HasSaved P.read_gives P.write_gives P.sync_gives self.old.pool
+            self.new.pool self.old.log table cut file start calls log_calls commits records pending) }
+        ensures log { OnOk result (self.new.log ≡ self.old.log) }
+        ensures ended { self.new.is_ended ≡ self.old.is_ended }
+    {
+        let flushed = self.pool.flush_all(rt);
+        self.pool.core().keeps_the_rules();
+        if let Err(stop) = flushed {
+            return Err(TableFault::Pages(stop.why));
+        }
+        if let Err(_) = self.pool.sync(rt) {
+            self.log.is_ended = true;
+            return Err(TableFault::Pages(Refusal::WriteFailed));
+        }
+        Ok(())
+    }
+
+    /// Begins the log anew in the other file, so that the commits until now take no room in it. Before that it makes each
+    /// of them durable, and each page; pages stay in their frames. A crash leaves all durable commits, whenever it comes.
+    /// `table` is the name by which the table was opened. `spare` is the file that has not the log: after Ok it is the one
+    /// that had it, for the next checkpoint.
+    ///
+    /// `Ended`, and `Memory` before that, change nothing. `Device` where a file of the log fails, `WriteFailed` where the
+    /// device does, `Full` where no LSN is left, `Memory`, and as `OwnedPool::mark` and `flush_all` are refused. If the
+    /// table or its log has then ended, it is to be opened again.
+    pub fn checkpoint<R: Wait>(
+        &mut self,
+        rt: &R,
+        alloc: Global,
+        table: &[u8],
+        spare: &mut LogFile<S>,
+    ) -> Result<(), TableFault>
+        ensures goes { (cut : Cut) (file other : List ℕ) (start records : ℕ) (synced : Trail)
+            (calls : List DeviceCall) (log_calls before : List FileCall)
+            (commits : List (List Record)) →
+            IsTable (head_is self.old.log.size (P.geometry_of self.old.pool.port) table.now) cut file
+            start synced calls log_calls commits records [] self.old.pool self.old.log →
+            failed before ≡ false → length (written other before) ≡ length other →
+            spare.old.size ≡ length other → Checkpoints S.reads S.writes S.syncs P.read_gives
+            P.write_gives P.sync_gives self.old.pool self.new.pool self.old.log self.new.log spare.old
+            spare.new (head_is self.old.log.size (P.geometry_of self.old.pool.port) table.now) cut file
+            start calls log_calls commits other before result }
+        ensures refused { OnErr result ((self.new.is_ended ≡ true) ⊎ (spare.new ≡ spare.old)) }
+        ensures alive { OnOk result (self.new.is_ended ≡ false) }
+    {
+        if self.is_ended {
+            return Err(TableFault::Log(LogFault::Ended));
+        }
+        let head = head_of(alloc, self.log.size, &self.pool.port().geometry(), table)?;
+        self.make_durable()?;
+        // Once the next log may be there, a commit in this one could be lost.
+        self.is_ended = true;
+        self.save_pages(rt)?;
+        // No LSN is 0.
+        spare.begin(alloc, self.log.next.max(1), &head)?;
+        mem::swap(&mut self.log, spare);
+        self.is_ended = false;
+        Ok(())
     }
 }

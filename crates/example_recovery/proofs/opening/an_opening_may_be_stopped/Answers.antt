@@ -1,4 +1,4 @@
-use Rattle.example_recovery.proofs.Openings.{brings-leave, redoing, beginning, begins-before, left-is, wiping-before}
+use Rattle.example_recovery.proofs.Openings.{brings-leave, redoing, beginning, begins-before, left-is, settled-long, settled-synced-before, settled-written-before, wiping-before}
 use Rattle.example_recovery.proofs.opening.an_opening_may_be_stopped.Goals as goal
 
 pub returns-clause-seen : goal.returns-clause-seen
@@ -14,6 +14,13 @@ returns-clause-beginning c = λ tears pages size wanted seen first left table ne
 
 pub returns-clause-wiping : goal.returns-clause-wiping
 returns-clause-wiping c = λ file begun before more long below_synced below_written wipes. wiping-before file before long begun below_synced below_written more wipes
+
+pub returns-clause-settled : goal.returns-clause-settled
+returns-clause-settled c = λ table newer older file begun last changes calls is settled. (
+  settled-long table newer older begun last changes is file calls settled,
+  settled-synced-before table newer older begun last changes is file calls settled,
+  settled-written-before table newer older begun last changes is file calls settled,
+)
 
 pub returns-clause-done : goal.returns-clause-done
 returns-clause-done c = λ tears pages size wanted seen first left table newer older left_newer begun last changes calls is settled within m k honest recovers leaves. (
