@@ -8,6 +8,7 @@
  *
  * With -DLIBFUZZER it has the entry of libFuzzer instead, which gives the random numbers. check/bindings builds it.
  */
+#include "drawn.h"
 #include "model.h"
 #include <stdio.h>
 #include <stdlib.h>
@@ -23,35 +24,6 @@ static void found_wrong(int line, const char *what, unsigned long long wanted, u
         if (wanted_ != value_)                                   \
             found_wrong(__LINE__, #value, wanted_, value_);      \
     } while (0)
-
-/* --- Random numbers --- */
-
-static uint64_t state;
-static const uint8_t *given; /* the bytes of libFuzzer, where there are some */
-static size_t given_left;
-static bool is_given;
-
-static uint64_t drawn(void)
-{
-    if (is_given) {
-        if (given_left == 0)
-            return 0;
-        given_left--;
-        return *given++;
-    }
-    state = state * 6364136223846793005u + 1442695040888963407u;
-    return state >> 33;
-}
-
-static uint64_t below(uint64_t n)
-{
-    return drawn() % n;
-}
-
-static bool one_in(uint64_t n)
-{
-    return below(n) == n - 1;
-}
 
 /* --- What is passed: each struct and buffer lies before memory that cannot be read or written --- */
 
