@@ -2,6 +2,7 @@
 //!
 //!     scan [SECONDS]
 //!     scan ahead [SECONDS]
+//!     scan file FOLDER [SECONDS]
 //!     scan calls
 //!
 //! The table has 12,000 pages of 4,096 bytes. Their device is in memory, so that each read is a copy.
@@ -9,15 +10,18 @@
 //!
 //! Two threads look at pages of 620, spread over the table, and rest 200 us after each; a third one
 //! scans, from the beginning again after the end. For each row the pager is made anew, and three scans
-//! are made before it counts, for so many seconds. Printed is a table by K, period and the memory of pages that are away: the pages
-//! that had to be read for a look-up, beside a plain scan and one that has 16 pages read ahead by four
-//! threads; the pages that these scans had in a second; how many pages were remembered at the end of
-//! the plain one, and the memory of its pager.
+//! are made before it counts, for so many seconds. Printed is a table by K, period and the memory of pages
+//! that are away: the pages that had to be read for a look-up, beside a plain scan and one that has 16 pages
+//! read ahead by four threads; the pages that these scans had in a second; how many pages were remembered at
+//! the end of the plain one, and the memory of its pager.
 //!
 //! With `ahead` each read takes 100 us and more, as long as a thread sleeps that wants to sleep so long.
 //! The third thread scans with pages read ahead by so many threads, one by one or up to 16 by one read:
 //! printed are the pages in a second, how many times that of the plain scan it is, and the pages that had
 //! to be read for a look-up.
+//!
+//! With `file` the same is done over a file that it makes in FOLDER and takes away at the end. It is opened
+//! with `O_DIRECT`, so that the system keeps none of its pages, and each read goes to the disk.
 //!
 //! With `calls` one thread scans 1,000,000 pages, which need no device, with 65,536 frames in one part:
 //! printed are the mean and the greatest time of a call, the pages that are remembered at the end and the
@@ -27,7 +31,10 @@
 use hojzmated::{Config, Fixed, PageIo, Pool, ReadFault, SharedConfig, SharedPager, Stats};
 use std::cell::Cell;
 use std::error::Error;
+use std::fs::{File, remove_file};
 use std::io;
+use std::os::unix::fs::{FileExt, OpenOptionsExt};
+use std::path::Path;
 use std::sync::Arc;
 use std::sync::atomic::{AtomicBool, AtomicU64, Ordering};
 use std::thread::{scope, sleep};
@@ -44,6 +51,12 @@ const HOT: u64 = 620;
 const REST: Duration = Duration::from_micros(200);
 const SLOW: Duration = Duration::from_micros(100);
 const WITHOUT_END: u64 = 1 << 62;
+/// `O_DIRECT` of the system's headers.
+const DIRECT: i32 = if cfg!(target_arch = "aarch64") {
+    0o200_000
+} else {
+    0o40_000
+};
 /// So many scans come before those that count.
 const BEFORE: u64 = 3;
 /// So many pages are asked for at a time.
@@ -54,12 +67,21 @@ thread_local! {
     static READS: Cell<u64> = const { Cell::new(0) };
 }
 
-/// Pages in memory with their number in each byte, and a log that is always durable.
+/// Pages with their number in each byte, and a log that is always durable.
 #[derive(Clone)]
 struct Pages {
-    /// How long each read takes besides, and how many pages one takes.
-    delay: Option<Duration>,
+    source: Source,
+    /// How many pages one read takes.
     most: usize,
+}
+
+/// Where the pages are.
+#[derive(Clone)]
+enum Source {
+    Memory,
+    /// In memory too, but each read sleeps first.
+    Slow,
+    File(Arc<File>),
 }
 
 impl PageIo for Pages {
@@ -77,10 +99,12 @@ impl PageIo for Pages {
     }
 
     fn read_pages(&self, first: u64, _count: usize, images: &mut [u8]) -> Result<(), ReadFault> {
-        self.delay.into_iter().for_each(sleep);
-        for (page, image) in (first..).zip(images.chunks_mut(SIZE)) {
-            image.fill(page as u8);
+        match &self.source {
+            Source::File(file) => return Ok(file.read_exact_at(images, first * SIZE as u64)?),
+            Source::Slow => sleep(SLOW),
+            Source::Memory => {}
         }
+        fill(first, images);
         Ok(())
     }
 
@@ -91,6 +115,23 @@ impl PageIo for Pages {
     fn sync(&self) -> io::Result<()> {
         Ok(())
     }
+}
+
+/// Makes the images of pages, from the first one on.
+fn fill(first: u64, images: &mut [u8]) {
+    for (page, image) in (first..).zip(images.chunks_mut(SIZE)) {
+        image.fill(page as u8);
+    }
+}
+
+/// Makes a file of all pages, of which the system keeps none.
+fn file_at(path: &Path) -> Outcome<File> {
+    let mut images = vec![0; PAGES as usize * SIZE];
+    fill(0, &mut images);
+    let file = File::create_new(path)?;
+    file.write_all_at(&images, 0)?;
+    file.sync_all()?;
+    Ok(File::options().read(true).custom_flags(DIRECT).open(path)?)
 }
 
 /// Pages that need no device.
@@ -257,7 +298,7 @@ fn beside_look_ups(length: Duration) -> Outcome<()> {
             ..settings()
         };
         let pages = Pages {
-            delay: None,
+            source: Source::Memory,
             most: 1,
         };
         let plain = run(&config, pages.clone(), (0, 0), 2, length)?;
@@ -276,7 +317,7 @@ fn beside_look_ups(length: Duration) -> Outcome<()> {
 }
 
 /// What is gained by reading ahead where reads are slow.
-fn ahead(length: Duration) -> Outcome<()> {
+fn ahead(source: &Source, length: Duration) -> Outcome<()> {
     println!(
         "| Ahead | Threads | Pages of a read | Scanned a second | Times the plain scan | Reads for a look-up |"
     );
@@ -291,7 +332,7 @@ fn ahead(length: Duration) -> Outcome<()> {
         (64, 4, 16),
     ] {
         let pages = Pages {
-            delay: Some(SLOW),
+            source: source.clone(),
             most,
         };
         let run = run(&settings(), pages, (ahead, readers), 2, length)?;
@@ -365,14 +406,20 @@ fn main() -> Outcome<()> {
         calls("without end", WITHOUT_END)?;
         return purges();
     }
-    let (is_ahead, seconds) = match words.as_slice() {
-        ["ahead", rest @ ..] => (true, rest.first()),
-        rest => (false, rest.first()),
+    let length = |rest: &[&str]| -> Outcome<Duration> {
+        let seconds = rest.first().map_or(Ok(3.0), |it| it.parse())?;
+        Ok(Duration::try_from_secs_f64(seconds)?)
     };
-    let seconds = seconds.map_or(Ok(3.0), |it| it.parse())?;
-    let length = Duration::try_from_secs_f64(seconds)?;
-    match is_ahead {
-        true => ahead(length),
-        false => beside_look_ups(length),
+    match words.as_slice() {
+        ["ahead", rest @ ..] => ahead(&Source::Slow, length(rest)?),
+        ["file", folder, rest @ ..] => {
+            let path = Path::new(folder).join(format!("scan-{}.pages", std::process::id()));
+            let length = length(rest)?;
+            let file = file_at(&path).map(|file| Source::File(Arc::new(file)));
+            let done = file.and_then(|file| ahead(&file, length));
+            remove_file(path)?;
+            done
+        }
+        rest => beside_look_ups(length(rest)?),
     }
 }

@@ -11,7 +11,7 @@ use Rattle.example_recovery.specs.Heads.ReadFault.{memory, no_changes}
 use Rattle.example_recovery.proofs.Framing.{frame-same}
 use Rattle.example_recovery.proofs.Openings.{head-is}
 use Rattle.std.specs.Int.{w64, to_le_bytes}
-use Rattle.example_recovery.specs.Frames.{number, frame, frames, NoFrame}
+use Rattle.example_recovery.specs.Frames.{number, frames, NoFrame}
 
 pub unnot : (b : Bool) → not b ≡ false → b ≡ true
 unnot true e = refl

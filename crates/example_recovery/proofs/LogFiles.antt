@@ -1,7 +1,7 @@
 -- What the calls of a log in a file add to its life.
 use Rattle.std.proofs.Common.{◌≡◌, inl, inr, ℕ, ◌+◌, ◌^◌, ◌<◌, ◌≤◌, Bool, true, false, not, List, [], ◌∷◌, ◌++◌, length, replicate, refl, sym, ap, subst, ◌∙◌, append_assoc, arith, length-append}
 use Rattle.std.proofs.lemmas.List.{length_push}
-use Rattle.std.specs.Prelude.{◌⊎◌, Result, Ok, Err, IfOk, OnErr}
+use Rattle.std.specs.Prelude.{◌⊎◌, Result, Ok, Err, IfOk, IfErr, IsErrAnd, OnErr}
 use Rattle.std.specs.Result.{IsErr, is_ok}
 use Rattle.bp_ports.specs.Files.{Transfer, StoreSync}
 use Rattle.example_recovery.specs.declared.log.LogFile.{LogFile}
@@ -10,15 +10,26 @@ use Rattle.example_recovery.specs.Files.{FileCall, FileDid, failed, written}
 use Rattle.example_recovery.specs.Files.FileCall.{Write, Again, Sync}
 use Rattle.example_recovery.specs.Lives.{LogLife}
 use Rattle.example_recovery.specs.Lives.LogLife.{wiped, appended, synced as was_synced, unsynced, closed}
-use Rattle.example_recovery.specs.LogFiles.{IsLogFile, GoesOn, Begins, Settles}
+use Rattle.example_recovery.specs.LogFiles.{AppendFault, BeginFault, IsLogFile, GoesOn, Begins, Settles, Wipes, WipesFile}
+use Rattle.example_recovery.specs.LogFiles.AppendFault.{has_ended, no_memory, no_lsn, no_room, failed as append_failed}
+use Rattle.example_recovery.specs.LogFiles.BeginFault.{no_memory as begin_no_memory, failed as begin_failed, no_lsn as begin_no_lsn, no_room as begin_no_room}
 use Rattle.example_recovery.specs.LogFiles.Settles.{nothing as settles_nothing, unwritten as settles_unwritten, synced as settles_synced}
 use Rattle.example_recovery.specs.declared.log.LogFault.{LogFault}
+use Rattle.example_recovery.specs.declared.log.LogFault.TheVariants.{Memory, Device}
 use Rattle.example_recovery.specs.LogFiles.Wipes.{nothing, wrote, unsynced as was_unsynced}
 use Rattle.example_recovery.proofs.Lives.{frames-push}
 
 pub err-if : {T E : Type 0} (r : Result T E) (P : T → Type 0) (Q : Type 0) → IsErr r → Q → IfOk r P × OnErr r Q
 err-if (Ok x) P Q h q = absurd (cc)
 err-if (Err e) P Q h q = (tt, q)
+
+pub err-is : (A : Type 0) (x y : LogFault) (r : Result A LogFault) → r ≡ Err x → r ≡ Err y → x ≡ y
+err-is A x y r e f = cc
+
+-- this error
+pub fault-is : {A : Type 0} (r : Result A LogFault) (fault : LogFault) (P : LogFault → Type 0) → IsErrAnd r (λ e. e ≡ fault) → P fault → IfErr r P
+fault-is (Ok x) fault P k p = tt
+fault-is (Err e) fault P k p = subst P (sym k) p
 
 pub file-did-append : {S : Type 0} (reads writes : Transfer S) (syncs : StoreSync S) (a b c : S) (newer older : List FileCall)
     → FileDid reads writes syncs a older b → FileDid reads writes syncs b newer c → FileDid reads writes syncs a (newer ++ older) c
@@ -132,17 +143,16 @@ module _ {S : Type 0} (reads writes : Transfer S) (syncs : StoreSync S) where
   -- ---- a log that is begun
 
   module _ (first head : List ℕ) (start : ℕ) (before : List FileCall) (good : failed before ≡ false) (long : length (written first before) ≡ length first) where
-    pub wipes : (old mid wiped_file : LogFile S) (zeros : List ℕ) → 1 ≤ start → old.size ≡ length first → zeros ≡ replicate old.size 0 → writes old.store 0 zeros true mid.store → syncs mid.store true wiped_file.store
+    pub wipes : (old wiped_file : LogFile S) → 1 ≤ start → old.size ≡ length first → WipesFile reads writes syncs old.size old.store true wiped_file.store
         → wiped_file.is_ended ≡ false → wiped_file.size ≡ old.size → wiped_file.end ≡ 0 → wiped_file.next ≡ start
         → GoesOn reads writes syncs old wiped_file first start before (λ log durable. (log ≡ []) × (durable ≡ 0))
-    wipes old mid new zeros positive size zeros-are wrote_it synced_it alive same end next =
-        let all : zeros ≡ replicate (length first) 0 = zeros-are ∙ ap (λ (n : ℕ). replicate n 0) size in
+    wipes old new positive size w alive same end next =
         let lived : LogLife first start true (Sync true ∷ Write 0 (replicate (length first) 0) true ∷ before) [] 0 = wiped good long in
         record {
           more = Sync true ∷ Write 0 (replicate (length first) 0) true ∷ [];
           log = [];
           durable = 0;
-          did = (mid.store, (old.store, refl, subst (λ (t : List ℕ). writes old.store 0 t true mid.store) all wrote_it), synced_it);
+          did = (w.0, (old.store, refl, subst (λ (n : ℕ). writes old.store 0 (replicate n 0) true w.0) size w.1), w.2);
           is = record {
             life = subst (λ (b : Bool). LogLife first start b (Sync true ∷ Write 0 (replicate (length first) 0) true ∷ before) [] 0) (sym (ap not alive)) lived;
             positive = positive;
@@ -153,19 +163,8 @@ module _ {S : Type 0} (reads writes : Transfer S) (syncs : StoreSync S) where
           is_so = (refl, refl);
         }
 
-    pub wiped-not : (old new : LogFile S) → new.store ≡ old.store → new.is_ended ≡ true → Begins reads writes syncs old new first start before head false
-    wiped-not old new same ended = inl ([], same, nothing, ended)
-
-    pub wiped-partly : (old new : LogFile S) (zeros : List ℕ) → old.size ≡ length first → zeros ≡ replicate old.size 0 → writes old.store 0 zeros false new.store → new.is_ended ≡ true → Begins reads writes syncs old new first start before head false
-    wiped-partly old new zeros size zeros-are wrote_it ended =
-        let all : zeros ≡ replicate (length first) 0 = zeros-are ∙ ap (λ (n : ℕ). replicate n 0) size in
-        inl (Write 0 (replicate (length first) 0) false ∷ [], (old.store, refl, subst (λ (t : List ℕ). writes old.store 0 t false new.store) all wrote_it), wrote false, ended)
-
-    pub wiped-unsynced : (old mid new : LogFile S) (zeros : List ℕ) → old.size ≡ length first → zeros ≡ replicate old.size 0 → writes old.store 0 zeros true mid.store → syncs mid.store false new.store → new.is_ended ≡ true
-        → Begins reads writes syncs old new first start before head false
-    wiped-unsynced old mid new zeros size zeros-are wrote_it synced_it ended =
-        let all : zeros ≡ replicate (length first) 0 = zeros-are ∙ ap (λ (n : ℕ). replicate n 0) size in
-        inl (Sync false ∷ Write 0 (replicate (length first) 0) true ∷ [], (mid.store, (old.store, refl, subst (λ (t : List ℕ). writes old.store 0 t true mid.store) all wrote_it), synced_it), was_unsynced, ended)
+    pub wiped-not : (old new : LogFile S) → old.size ≡ length first → WipesFile reads writes syncs old.size old.store false new.store → new.is_ended ≡ true → Begins reads writes syncs old new first start before head false
+    wiped-not old new size w ended = inl (w.0, w.1, subst (λ (n : ℕ). Wipes n w.0) size w.2, ended)
 
     -- the first record was appended, and synced
     module _ (old s4 s5 : LogFile S) (w : GoesOn reads writes syncs old s4 first start before (λ log durable. (log ≡ []) × (durable ≡ 0))) where
@@ -228,3 +227,47 @@ module _ {S : Type 0} (reads writes : Transfer S) (syncs : StoreSync S) (old mid
 
   pub settles-synced : (good : Bool) → writes old 0 bytes true mid → syncs mid good new → Led new good
   settles-synced good gave synced = (Sync good ∷ Again again true ∷ [], (mid, (old, refl, subst (λ (t : List ℕ). writes old 0 t true mid) same gave), synced), settles_synced good)
+
+-- ---- a file that is wiped
+
+module _ {S : Type 0} (reads writes : Transfer S) (syncs : StoreSync S) (size : ℕ) (old mid new : S) (r : Result (Unit {0}) LogFault) (e : IsErr r) where
+  abbrev Wiped : S → Type 0
+  Wiped after = WipesFile reads writes syncs size old (is_ok r) after
+
+  as-error : (after : S) → WipesFile reads writes syncs size old false after → Wiped after
+  as-error after w = subst (λ (b : Bool). WipesFile reads writes syncs size old b after) (not-ok r e) w
+    where
+      not-ok : (x : Result (Unit {0}) LogFault) → IsErr x → false ≡ is_ok x
+      not-ok (Ok x) h = cc
+      not-ok (Err x) h = refl
+
+  pub unwiped : Wiped old
+  unwiped = as-error old ([], refl, nothing)
+
+  pub wiped-partly : (zeros : List ℕ) → zeros ≡ replicate size 0 → writes old 0 zeros false mid → Wiped mid
+  wiped-partly zeros are gave = as-error mid (Write 0 (replicate size 0) false ∷ [], (old, refl, subst (λ (t : List ℕ). writes old 0 t false mid) are gave), wrote false)
+
+  pub wiped-unsynced : (zeros : List ℕ) → zeros ≡ replicate size 0 → writes old 0 zeros true mid → syncs mid false new → Wiped new
+  wiped-unsynced zeros are gave synced = as-error new (Sync false ∷ Write 0 (replicate size 0) true ∷ [], (mid, (old, refl, subst (λ (t : List ℕ). writes old 0 t true mid) are gave), synced), was_unsynced)
+
+-- ---- why a log was not begun
+
+pub begin-fault : {S : Type 0} (writes : Transfer S) (old new : LogFile S) (head : List ℕ) (size lsn : ℕ) (fault : LogFault) → AppendFault writes old head new fault → old.is_ended ≡ false → old.size ≡ size → old.next ≡ lsn → old.end ≡ 0 → BeginFault size lsn head fault
+begin-fault writes old new head size lsn _ (has_ended e same) alive s n z = absurd (cc)
+begin-fault writes old new head size lsn _ (no_memory e same) alive s n z = begin_no_memory
+begin-fault writes old new head size lsn _ (no_lsn e le same) alive s n z = begin_no_lsn (omega (arith, n))
+begin-fault writes old new head size lsn _ (no_room e lt same) alive s n z = begin_no_room (omega (arith, s, z, ap (λ (k : ℕ). length (frame k head)) n))
+begin-fault writes old new head size lsn _ (append_failed e ended gave) alive s n z = begin_failed
+
+-- after a refusal a log is as it was, or has ended
+pub same-or-ended : {S : Type 0} (writes : Transfer S) (old new : LogFile S) (payload : List ℕ) (fault : LogFault) → AppendFault writes old payload new fault → (new ≡ old) ⊎ (new.is_ended ≡ true)
+same-or-ended writes old new payload _ (has_ended e same) = inl same
+same-or-ended writes old new payload _ (no_memory e same) = inl same
+same-or-ended writes old new payload _ (no_lsn e le same) = inl same
+same-or-ended writes old new payload _ (no_room e lt same) = inl same
+same-or-ended writes old new payload _ (append_failed e ended gave) = inr ended
+
+pub memory-or-failed : {A : Type 0} (size lsn : ℕ) (head : List ℕ) (r : Result A LogFault) (fault : LogFault) → IsErrAnd r (λ e. e ≡ fault) → (fault ≡ Memory) ⊎ (fault ≡ Device) → IfErr r (BeginFault size lsn head)
+memory-or-failed size lsn head (Ok x) fault k why = tt
+memory-or-failed size lsn head (Err x) fault k (inl e) = subst (BeginFault size lsn head) (sym (k ∙ e)) begin_no_memory
+memory-or-failed size lsn head (Err x) fault k (inr e) = subst (BeginFault size lsn head) (sym (k ∙ e)) begin_failed

@@ -2,9 +2,7 @@
 use Rattle.std.proofs.Common.{◌≡◌, inl, inr, refl, sym, ap, subst, ◌∙◌, ℕ, zero, suc, ◌+◌, ◌-◌, ◌<◌, ◌≤◌, nat_le, Bool, true, false, not, cond, ◌&&◌, ◌==◌, List, [], ◌∷◌, ◌++◌, length, map, take, drop, replicate, reverse, get_or, filter, append_assoc, append-nil, arith}
 use Rattle.std.specs.Prelude.{◌⊎◌, Result, Ok, Err, IfOk, IfErr, IsErrAnd}
 use Rattle.example_recovery.specs.declared.log.LogFault.{LogFault}
-use Rattle.example_recovery.specs.declared.log.LogFault.TheVariants.{Memory, Device}
 use Rattle.example_recovery.specs.Heads.{OtherHead}
-use Rattle.example_recovery.specs.Opening.CreatesLog.{unread}
 use Rattle.example_recovery.specs.Opening.MoveFault.{beyond}
 use Rattle.example_recovery.specs.declared.table.TableFault.TheVariants.{Pages}
 use Rattle.bp_page.specs.declared.refusals.Refusal.{Refusal}
@@ -24,21 +22,20 @@ use Rattle.example_recovery.specs.Commits.{AreCommits, HasCommits, changes_of, l
 use Rattle.example_recovery.specs.Disk.{DeviceCall, Did, Reads, Writes, Syncs, Honest, MayBring, MayLeave, Partly, sync_failed}
 use Rattle.bp_trail.specs.Lists.{some}
 use Rattle.example_recovery.specs.Files.{FileCall, FileDid, FileLeaves, IsSettled, SettledLeaves, Unsure, failed, settles, synced, written}
-use Rattle.example_recovery.specs.Files.FileCall.{Read}
+use Rattle.example_recovery.specs.Files.FileCall.{Read, Write, Sync}
 use Rattle.example_recovery.specs.Files.IsSettled.{settled as was_settled, again as settled_again, resynced as settled_synced}
 use Rattle.example_recovery.specs.Frames.{IsRecord, NoFrame, frame, frames}
 use Rattle.example_recovery.specs.Lives.{AreRecords, LogLife, Reopened, SameAt, TellsTrue}
 use Rattle.example_recovery.specs.Lives.Reopened.{ended}
-use Rattle.example_recovery.specs.LogFiles.{Begins, IsLogFile, Wipes}
+use Rattle.example_recovery.specs.LogFiles.{Begins, IsLogFile, IsUnread, Wipes, WipesFile}
+use Rattle.example_recovery.specs.LogFiles.IsUnread.{no_memory, failed as failed_read}
 use Rattle.example_recovery.specs.LogFiles.Wipes.{nothing, wrote, unsynced}
-use Rattle.example_recovery.specs.Opening.{AreWithin, Beginning, BeginsBefore, BeginsLog, CreatesLog, FindsLog, Found, IsNewer, IsOnlyRead, MayBeOpened, MoveFault, Moves, MovesLog, Redid, again_of}
+use Rattle.example_recovery.specs.Opening.{AreWithin, Beginning, BeginsBefore, BeginsLog, CreatesLog, EmptiesFile, FindsLog, Found, IsNewer, IsOnlyRead, MayBeOpened, MoveFault, Moves, MovesLog, Redid, again_of}
 use Rattle.example_recovery.specs.Opening.Beginning.{wiping, begun as was_begun}
 use Rattle.example_recovery.specs.Promise.{MayBeRedone, Recovers}
 use Rattle.example_recovery.proofs.CommitsRead.{head-same, payload-same, whole-commits}
 use Rattle.example_recovery.proofs.Framing.{frame-same, zeros-none}
 use Rattle.example_recovery.proofs.Lives.{life-is, front-is, next, remains}
-use Rattle.example_recovery.proofs.LogFiles.{err-if}
-use Rattle.example_recovery.proofs.Redoing.{err-false}
 use Rattle.example_recovery.proofs.Tables.{filter-reverse}
 
 -- ---- what is read of a file is one log
@@ -149,48 +146,80 @@ pub begins-log : {S : Type 0} (reads writes : Transfer S) (syncs : StoreSync S) 
     → BeginsLog reads writes syncs old new start table good
 begins-log reads writes syncs old new start table good b = λ file before well long size. beginning-of reads writes syncs old new file start before table good (b file before well long size)
 
-module _ (older : List ℕ) (before : List FileCall) (synced_is : synced older before ≡ older) (written_is : written older before ≡ older) where
+-- zeros have no record
+zeros-before : (begun count : ℕ) → BeginsBefore begun (replicate count 0)
+zeros-before begun count = λ lsn payload rest fit e. absurd (zeros-none count lsn payload rest fit e)
+
+module _ (older : List ℕ) (before : List FileCall) (long : length (written older before) ≡ length older) where
   abbrev zeros : List ℕ
   zeros = replicate (length older) 0
 
   zeros-are : zeros ++ drop (0 + length zeros) (written older before) ≡ zeros
-  zeros-are =
-      let long = ap (λ (t : List ℕ). length t) written_is in
-      ap (λ (t : List ℕ). zeros ++ t) (drop_all (0 + length zeros) (written older before) (omega (arith, length-replicate {A = ℕ} (length older) 0))) ∙ append-nil zeros
+  zeros-are = ap (λ (t : List ℕ). zeros ++ t) (drop_all (0 + length zeros) (written older before) (omega (arith, long, length-replicate {A = ℕ} (length older) 0))) ∙ append-nil zeros
 
-  -- what was made durable last is what stood there, and what was written last is that or zeros
-  wiped-is : (more : List FileCall) → Wipes (length older) more → (synced older (more ++ before) ≡ older) × ((written older (more ++ before) ≡ older) ⊎ (written older (more ++ before) ≡ zeros))
-  wiped-is _ nothing = (synced_is, inl written_is)
-  wiped-is _ (wrote good) = (synced_is, inr zeros-are)
-  wiped-is _ unsynced = (synced_is, inr zeros-are)
+  -- what was made durable last is as before, and what was written last is so or zeros
+  wiped-is : (more : List FileCall) → Wipes (length older) more → (synced older (more ++ before) ≡ synced older before) × ((written older (more ++ before) ≡ written older before) ⊎ (written older (more ++ before) ≡ zeros))
+  wiped-is _ nothing = (refl, inl refl)
+  wiped-is _ (wrote good) = (refl, inr zeros-are)
+  wiped-is _ unsynced = (refl, inr zeros-are)
 
-  -- a record at the front of what is left stood there before
-  stood : (more : List FileCall) (start : ℕ) (bytes : List ℕ) → Wipes (length older) more → TellsTrue start (synced older (more ++ before)) (written older (more ++ before)) bytes
-      → (lsn : ℕ) (payload rest : List ℕ) → IsRecord lsn payload → bytes ≡ frame lsn payload ++ rest → (behind : List ℕ) × (older ≡ frame lsn payload ++ behind)
-  stood more start bytes wipes tells lsn payload rest fit e = go (wiped-is more wipes) (tells [] lsn payload rest fit e)
-    where
-      n : ℕ
-      n = length (frame lsn payload)
+  still-long : (more : List FileCall) → (written older (more ++ before) ≡ written older before) ⊎ (written older (more ++ before) ≡ zeros) → length (written older (more ++ before)) ≡ length older
+  still-long more (inl same) = ap (λ (t : List ℕ). length t) same ∙ long
+  still-long more (inr none) = ap (λ (t : List ℕ). length t) none ∙ length-replicate {A = ℕ} (length older) 0
 
-      here : take n bytes ≡ frame lsn payload
-      here = ap (take n) e ∙ take_at (frame lsn payload) rest n refl
+  module _ (begun : ℕ) (below_synced : BeginsBefore begun (synced older before)) (below_written : BeginsBefore begun (written older before)) where
+    last-before : (more : List FileCall) → (written older (more ++ before) ≡ written older before) ⊎ (written older (more ++ before) ≡ zeros) → BeginsBefore begun (written older (more ++ before))
+    last-before more (inl same) = subst (BeginsBefore begun) (sym same) below_written
+    last-before more (inr none) = subst (BeginsBefore begun) (sym none) (zeros-before begun (length older))
 
-      from : (file : List ℕ) → file ≡ older → take n bytes ≡ take n file → (behind : List ℕ) × (older ≡ frame lsn payload ++ behind)
-      from file is same = (drop n older, sym (take-append-drop n older) ∙ ap (λ (t : List ℕ). t ++ drop n older) (sym (ap (take n) is) ∙ sym same ∙ here))
+    pub wiping-before : (more : List FileCall) → Wipes (length older) more → (length (written older (more ++ before)) ≡ length older) × BeginsBefore begun (synced older (more ++ before)) × BeginsBefore begun (written older (more ++ before))
+    wiping-before more wipes =
+        let are = wiped-is more wipes in
+        (still-long more are.1, subst (BeginsBefore begun) (sym are.0) below_synced, last-before more are.1)
 
-      not-zeros : (file : List ℕ) → file ≡ zeros → take n bytes ≡ take n file → ⊥
-      not-zeros file is same =
-          zeros-none (length older) lsn payload (drop n zeros) fit
-          (sym (take-append-drop n zeros) ∙ ap (λ (t : List ℕ). t ++ drop n zeros) (sym (ap (take n) is) ∙ sym same ∙ here))
+    -- a record at the front of what is left stood there before
+    stood : (more : List FileCall) (start : ℕ) (bytes : List ℕ) → Wipes (length older) more → TellsTrue start (synced older (more ++ before)) (written older (more ++ before)) bytes
+        → (lsn : ℕ) (payload rest : List ℕ) → IsRecord lsn payload → bytes ≡ frame lsn payload ++ rest → lsn < begun
+    stood more start bytes wipes tells lsn payload rest fit e = go ((wiping-before more wipes).1, (wiping-before more wipes).2) (tells [] lsn payload rest fit e)
+      where
+        n : ℕ
+        n = length (frame lsn payload)
 
-      last : (written older (more ++ before) ≡ older) ⊎ (written older (more ++ before) ≡ zeros) → take n bytes ≡ take n (written older (more ++ before)) → (behind : List ℕ) × (older ≡ frame lsn payload ++ behind)
-      last (inl is) same = from (written older (more ++ before)) is same
-      last (inr is) same = absurd (not-zeros (written older (more ++ before)) is same)
+        from : (file : List ℕ) → BeginsBefore begun file → take n bytes ≡ take n file → lsn < begun
+        from file below same =
+            below lsn payload (drop n file) fit
+            (sym (take-append-drop n file) ∙ ap (λ (t : List ℕ). t ++ drop n file) (sym same ∙ ap (take n) e ∙ take_at (frame lsn payload) rest n refl))
 
-      go : (synced older (more ++ before) ≡ older) × ((written older (more ++ before) ≡ older) ⊎ (written older (more ++ before) ≡ zeros))
-          → SameAt 0 n bytes (synced older (more ++ before)) ⊎ SameAt 0 n bytes (written older (more ++ before)) → (behind : List ℕ) × (older ≡ frame lsn payload ++ behind)
-      go are (inl same) = from (synced older (more ++ before)) are.0 same
-      go are (inr same) = last are.1 same
+        go : BeginsBefore begun (synced older (more ++ before)) × BeginsBefore begun (written older (more ++ before))
+            → SameAt 0 n bytes (synced older (more ++ before)) ⊎ SameAt 0 n bytes (written older (more ++ before)) → lsn < begun
+        go below (inl same) = from (synced older (more ++ before)) below.0 same
+        go below (inr same) = from (written older (more ++ before)) below.1 same
+
+  -- what a crash leaves of a file that was wiped durably has no record
+  module _ (well : failed before ≡ false) where
+    abbrev wipe : List FileCall
+    wipe = Write 0 zeros true ∷ before
+
+    all-zeros : (left : List ℕ) → FileLeaves older (Sync true ∷ wipe) left → left ≡ zeros
+    all-zeros left leaves = ext_get_or 0 left zeros (leaves.long ∙ sym (length-replicate {A = ℕ} (length older) 0)) (λ i lt. at i (leaves.each i lt))
+      where
+        yes : settles true wipe ≡ true
+        yes = ap not well
+
+        sure : (b : Bool) (P : Type 0) → b ≡ true → MatchBool b ⊥ P → ⊥
+        sure true P e h = h
+        sure false P e h = absurd cc
+
+        is : (b : Bool) → b ≡ true → cond b (written older wipe) (synced older wipe) ≡ zeros
+        is true e = zeros-are
+        is false e = absurd cc
+
+        at : (i : ℕ) → (get_or left i 0 ≡ get_or (synced older (Sync true ∷ wipe)) i 0) ⊎ Unsure (Sync true ∷ wipe) i → get_or left i 0 ≡ get_or zeros i 0
+        at i (inl same) = same ∙ ap (λ (t : List ℕ). get_or t i 0) (is (settles true wipe) yes)
+        at i (inr unsure) = absurd (sure (settles true wipe) (Unsure wipe i) yes unsure)
+
+    pub none-left-of : (left : List ℕ) → FileLeaves older (Sync true ∷ wipe) left → NoFrame left
+    none-left-of left leaves = subst NoFrame (sym (all-zeros left leaves)) (zeros-none (length older))
 
 -- a log of one record has no commit
 none-kept : (kept lost : List (List LogRecord)) → [] ≡ kept ++ lost → changes_of kept ≡ []
@@ -312,17 +341,16 @@ module _ (tears : Bool) (pages size : ℕ) (wanted seen first left : ℕ → Lis
       none-left : MayBeRedone tears size 0 [] wanted left
       none-left = record { sized = left-may.sized; mended = λ p. inr (inr refl); leads = left-is }
 
-      pub beginning : (file left_older : List ℕ) (before log_calls : List FileCall) → BeginsBefore begun file → synced file before ≡ file → written file before ≡ file → Beginning file (last + 1) table before log_calls → FileLeaves file log_calls left_older
+      pub beginning : (file left_older : List ℕ) (before log_calls : List FileCall) → length (written file before) ≡ length file → BeginsBefore begun (synced file before) → BeginsBefore begun (written file before) → Beginning file (last + 1) table before log_calls → FileLeaves file log_calls left_older
           → TellsTrue (last + 1) (synced file log_calls) (written file log_calls) left_older → MayBeOpened tears size table left_newer left_older wanted left
-      beginning file left_older before log_calls below s w b file_left tells = λ f l cs n. found log_calls b file_left tells f l cs n
+      beginning file left_older before log_calls long below_synced below_written b file_left tells = λ f l cs n. found log_calls b file_left tells f l cs n
         where
           none-new : (file_calls : List FileCall) → Beginning file (last + 1) table before file_calls → FileLeaves file file_calls left_older → TellsTrue (last + 1) (synced file file_calls) (written file file_calls) left_older
               → (f l : ℕ) (cs : List LogRecord) → IsNewer table left_older left_newer f l cs → cs ≡ []
           none-new _ (was_begun {alive = alive} {calls = file_calls} {later = later} {log = log} {kept = kept} {durable = durable} {n = count} life log-is reopened) file_left tells f l cs n =
               none-read table file left_older (last + 1) alive file_calls later log kept durable count f l cs life log-is reopened file_left tells n.has
           none-new _ (wiping {more = more} wipes) file_left tells f l cs n =
-              let h = stood file before s w more (last + 1) left_older wipes tells f table (frames (f + 1) (map payload_of n.has.commits) ++ n.has.is_read.rest) n.has.is_read.records.0 (head-is table left_older f l cs n.has) in
-              let a = below f table h.0 n.has.is_read.records.0 h.1 in
+              let a = stood file before long begun below_synced below_written more (last + 1) left_older wipes tells f table (frames (f + 1) (map payload_of n.has.commits) ++ n.has.is_read.rest) n.has.is_read.records.0 (head-is table left_older f l cs n.has) in
               let b = before-of table left_newer begun last f changes newer-has n.other in
               absurd (omega arith)
 
@@ -349,6 +377,7 @@ found device table newer older pages size first last other_first changes mid has
   changes = changes;
   is_newer = record { has = has; other = λ lsn payload rest fit e. (let h = other lsn payload rest fit e in omega (arith, h.0)) };
   within = subst (λ (n : ℕ). AreWithin device.pages n changes) s (subst (λ (n : ℕ). AreWithin n size changes) p (subst (AreWithin pages size) same within));
+  same_head = λ lsn payload rest fit e. (other lsn payload rest fit e).1;
 }
 
 pub redid : {P : Type 0} (reads : Reads P) (writes : Writes P) (syncs : Syncs P) (device : Geometry) (changes mid : List LogRecord) (from : ℕ) (old new : P) (done : Bool) → from ≡ 0 → mid ≡ changes
@@ -389,9 +418,9 @@ module _ {S P : Type 0} (reads writes : Transfer S) (syncs : StoreSync S) (page_
   refused-as (Err e) why k h = subst (λ w. Moved (Err w)) (sym k) h
 
 module _ {S : Type 0} (reads writes : Transfer S) (syncs : StoreSync S) (old new : LogFile S) where
-  pub was-unread : (new.store ≡ old.store) ⊎ ((bytes : List ℕ) × reads old.store 0 bytes false new.store) → IsOnlyRead reads writes syncs old new
-  was-unread (inl same) = ([], same, tt)
-  was-unread (inr h) = (Read 0 h.0 false ∷ [], (old.store, refl, h.1), tt)
+  pub was-unread : (why : LogFault) → IsUnread reads old.store new.store why → IsOnlyRead reads writes syncs old new
+  was-unread _ (no_memory same) = ([], same, tt)
+  was-unread _ (failed_read bytes gave) = (Read 0 bytes false ∷ [], (old.store, refl, gave), tt)
 
   pub was-read : (bytes : List ℕ) → reads old.store 0 bytes true new.store → IsOnlyRead reads writes syncs old new
   was-read bytes h = (Read 0 bytes true ∷ [], (old.store, refl, h), tt)
@@ -431,10 +460,17 @@ module _ {S P : Type 0} (reads writes : Transfer S) (syncs : StoreSync S) (page_
 pub framed-not : (bytes slice : List ℕ) → slice ≡ bytes → (lsn : ℕ) (payload rest : List ℕ) → IsRecord lsn payload → slice ≡ frame lsn payload ++ rest → ¬ NoFrame bytes
 framed-not bytes slice same lsn payload rest fit e = λ none. none lsn payload rest fit (sym same ∙ e)
 
-pub created-not : {S : Type 0} (reads writes : Transfer S) (syncs : StoreSync S) (head : List ℕ) (one two new_one new_two : LogFile S) (r : Result (Unit {0}) LogFault) (fault : LogFault) → IsErrAnd r (λ e. e ≡ fault) → (fault ≡ Memory) ⊎ (fault ≡ Device)
-    → IsOnlyRead reads writes syncs one new_one → IsOnlyRead reads writes syncs two new_two → CreatesLog reads writes syncs head one two r new_one new_two
-created-not reads writes syncs head one two new_one new_two (Ok x) fault k why a b = absurd k
-created-not reads writes syncs head one two new_one new_two (Err e) fault k why a b = unread e (subst (λ x. (x ≡ Memory) ⊎ (x ≡ Device)) (sym k) why) a b
+pub created-as : {S : Type 0} (reads writes : Transfer S) (syncs : StoreSync S) (head : List ℕ) (one two new_one new_two : LogFile S) (r : Result (Unit {0}) LogFault) (fault : LogFault) → IsErrAnd r (λ e. e ≡ fault)
+    → CreatesLog reads writes syncs head one two (Err fault) new_one new_two → CreatesLog reads writes syncs head one two r new_one new_two
+created-as reads writes syncs head one two new_one new_two (Ok x) fault k h = absurd k
+created-as reads writes syncs head one two new_one new_two (Err e) fault k h = subst (λ x. CreatesLog reads writes syncs head one two (Err x) new_one new_two) (sym k) h
+
+pub emptied : {S : Type 0} (reads writes : Transfer S) (syncs : StoreSync S) (old new : LogFile S) → WipesFile reads writes syncs old.size old.store true new.store → EmptiesFile reads writes syncs old new
+emptied reads writes syncs old new w = λ file before well long size. (
+  Sync true ∷ Write 0 (replicate (length file) 0) true ∷ [],
+  (w.0, (old.store, refl, subst (λ (n : ℕ). writes old.store 0 (replicate n 0) true w.0) size w.1), w.2),
+  none-left-of file before long well,
+)
 
 -- ---- why an opening does not come to the logs
 

@@ -1,6 +1,6 @@
 -- The first record of a log, its head: how many bytes its file has, over what pages it is, and which
 -- table it is of.
-use Rattle.std.specs.Prelude.{◌≡◌, ◌≢◌, ◌⊎◌, ℕ, ◌+◌, List, ◌++◌, length, take, drop, Option, MatchOption}
+use Rattle.std.specs.Prelude.{◌≡◌, ◌≢◌, ℕ, ◌+◌, List, ◌++◌, length, take, drop}
 use Rattle.bp_page.specs.declared.limits.Geometry.{Geometry}
 use Rattle.bp_trail.specs.declared.records.LogRecord.{LogRecord}
 use Rattle.example_recovery.specs.declared.log.LogFault.{LogFault}

@@ -1,9 +1,11 @@
 -- A log in a file, as its calls leave it.
-use Rattle.std.specs.Prelude.{◌≡◌, ◌⊎◌, ℕ, ◌+◌, ◌≤◌, Bool, true, false, not, List, [], ◌∷◌, ◌++◌, length, replicate, OnOk, OnErr}
+use Rattle.std.specs.Prelude.{◌≡◌, ◌⊎◌, ℕ, ◌+◌, ◌-◌, ◌^◌, ◌<◌, ◌≤◌, Bool, true, false, not, List, [], ◌∷◌, ◌++◌, length, replicate, OnOk, OnErr}
 use Rattle.std.specs.declared.result.Result.{Result}
 use Rattle.bp_ports.specs.Files.{Transfer, StoreSync}
 use Rattle.example_recovery.specs.declared.log.LogFile.{LogFile}
-use Rattle.example_recovery.specs.Frames.{frames}
+use Rattle.example_recovery.specs.declared.log.LogFault.{LogFault}
+use Rattle.example_recovery.specs.declared.log.LogFault.TheVariants.{Memory, Device as FileFailed, Full, Ended}
+use Rattle.example_recovery.specs.Frames.{frame, frames}
 use Rattle.example_recovery.specs.Files.{FileCall, FileDid}
 use Rattle.example_recovery.specs.Lives.{LogLife}
 
@@ -20,6 +22,37 @@ pub record IsLogFile {S : Type 0} (first : List ℕ) (start : ℕ) (calls : List
 abbrev pub EndsOnError : {S X E : Type 0} → LogFile S → LogFile S → Result X E → Type 0
 EndsOnError old new result =
     OnErr result (new.is_ended ≡ true) × OnOk result (new.is_ended ≡ old.is_ended)
+
+-- why a file was not read: memory was short, and nothing was read; or the read failed
+pub data IsUnread {S : Type 0} (reads : Transfer S) (old new : S) : LogFault → Type 0 where
+  no_memory : new ≡ old → IsUnread reads old new Memory
+  failed : (bytes : List ℕ) → reads old 0 bytes false new → IsUnread reads old new FileFailed
+
+-- a record may stand behind the last one, under the next LSN
+pub record HasRoom {S : Type 0} (file : LogFile S) (payload : List ℕ) : Type 0 where
+  pub alive : file.is_ended ≡ false
+  pub lsn : file.next < 2 ^ 64 - 1
+  pub room : file.end + length (frame file.next payload) ≤ file.size
+
+-- why a record was not appended
+pub data AppendFault {S : Type 0} (writes : Transfer S) (old : LogFile S) (payload : List ℕ)
+    (new : LogFile S) : LogFault → Type 0 where
+  has_ended : old.is_ended ≡ true → new ≡ old → AppendFault writes old payload new Ended
+  no_memory : old.is_ended ≡ false → new ≡ old → AppendFault writes old payload new Memory
+  no_lsn : old.is_ended ≡ false → 2 ^ 64 - 1 ≤ old.next → new ≡ old
+      → AppendFault writes old payload new Full
+  no_room : old.is_ended ≡ false → old.size < old.end + length (frame old.next payload) → new ≡ old
+      → AppendFault writes old payload new Full
+  failed : old.is_ended ≡ false → new.is_ended ≡ true
+      → writes old.store old.end (frame old.next payload) false new.store
+      → AppendFault writes old payload new FileFailed
+
+-- why a log was not begun in a file of so many bytes
+pub data BeginFault (size lsn : ℕ) (head : List ℕ) : LogFault → Type 0 where
+  no_memory : BeginFault size lsn head Memory
+  failed : BeginFault size lsn head FileFailed
+  no_lsn : 2 ^ 64 - 1 ≤ lsn → BeginFault size lsn head Full
+  no_room : size < length (frame lsn head) → BeginFault size lsn head Full
 
 -- the next record is to stand where it was to
 abbrev pub SamePlace : {S : Type 0} → LogFile S → LogFile S → Type 0
@@ -41,6 +74,13 @@ pub data Wipes (size : ℕ) : List FileCall → Type 0 where
   nothing : Wipes size []
   wrote : (good : Bool) → Wipes size (FileCall.Write 0 (replicate size 0) good ∷ [])
   unsynced : Wipes size (FileCall.Sync false ∷ FileCall.Write 0 (replicate size 0) true ∷ [])
+
+-- a file that was wiped, durably, or why not
+abbrev pub WipesFile : {S : Type 0} → Transfer S → Transfer S → StoreSync S → ℕ → S → Bool → S → Type 0
+WipesFile {S} reads writes syncs size old true new =
+    (mid : S) × writes old 0 (replicate size 0) true mid × syncs mid true new
+WipesFile reads writes syncs size old false new =
+    (more : List FileCall) × FileDid reads writes syncs old more new × Wipes size more
 
 -- the calls by which a file is written again and synced, some of them or all
 pub data Settles (bytes : List ℕ) : List FileCall → Bool → Type 0 where

@@ -13,10 +13,10 @@ use Rattle.bp_page.specs.declared.refusals.Refusal.TheVariants.{OutOfPage}
 use Rattle.example_recovery.specs.Heads.{OtherHead, ReadFault}
 use Rattle.example_recovery.specs.Commits.{HasCommits, log_of}
 use Rattle.example_recovery.specs.Disk.{DeviceCall, Reads, Writes, Syncs, Did}
-use Rattle.example_recovery.specs.Files.{FileCall, FileDid, failed, written}
+use Rattle.example_recovery.specs.Files.{FileCall, FileDid, FileLeaves, failed, written}
 use Rattle.example_recovery.specs.Frames.{IsRecord, NoFrame, frame}
 use Rattle.example_recovery.specs.Lives.{LogLife, Reopened, whole}
-use Rattle.example_recovery.specs.LogFiles.{IsLogFile, Settles, Wipes}
+use Rattle.example_recovery.specs.LogFiles.{BeginFault, IsLogFile, IsUnread, Settles, Wipes, WipesFile}
 use Rattle.example_recovery.specs.Promise.{MayBeRedone, Recovers}
 
 -- ---- which of two files has the log
@@ -52,13 +52,16 @@ AreWithin pages size [] = Unit {0}
 AreWithin pages size (r ∷ later) =
     (r.page < pages) × (r.offset + length r.bytes ≤ size) × AreWithin pages size later
 
--- what is found in the newer of two files: its commits, of which each change lies within a page
+-- what is found in the newer of two files: its commits, of which each change lies within a page. A
+-- record at the front of the older one has the same head
 pub record Found (device : Geometry) (table newer older : List ℕ) : Type 0 where
   pub first : ℕ
   pub last : ℕ
   pub changes : List LogRecord
   pub is_newer : IsNewer table newer older first last changes
   pub within : AreWithin device.pages device.size changes
+  pub same_head : (lsn : ℕ) (payload rest : List ℕ) → IsRecord lsn payload
+      → older ≡ frame lsn payload ++ rest → payload ≡ table
 
 -- these were redone; or some pages of them
 pub record Redid {P : Type 0} (reads : Reads P) (writes : Writes P) (syncs : Syncs P)
@@ -107,7 +110,7 @@ pub data MoveFault (device : Geometry) (head newer older : List ℕ) : TableFaul
       → ¬ AreWithin device.pages device.size changes
       → MoveFault device head newer older (Pages OutOfPage)
   no_lsn : {first last : ℕ} {changes : List LogRecord} → HasCommits head newer first last changes
-      → last ≡ 2 ^ 64 - 1 → MoveFault device head newer older (Log Full)
+      → 2 ^ 64 - 2 ≤ last → MoveFault device head newer older (Log Full)
 
 -- What an opening does: it is refused, with nothing done; or it writes the newer log again, and that
 -- is not yet durable; or it stops within the redo; or all is redone, and a log is begun in the other
@@ -151,19 +154,52 @@ abbrev pub IsOnlyRead : {S : Type 0} → Transfer S → Transfer S → StoreSync
 IsOnlyRead reads writes syncs old new =
     (calls : List FileCall) × FileDid reads writes syncs old.store calls new.store × AreReads calls
 
--- What the making of a table does: it is refused, with nothing written, where a file is not read, or
--- where a record stands at the front of one; or a log is begun in the first, in part or durably.
+-- what a crash leaves of a file has no record at its front
+abbrev pub EmptiesFile : {S : Type 0} → Transfer S → Transfer S → StoreSync S → LogFile S → LogFile S
+    → Type 0
+EmptiesFile reads writes syncs old new =
+    (file : List ℕ) (before : List FileCall) → failed before ≡ false
+    → length (written file before) ≡ length file → old.size ≡ length file
+    → (more : List FileCall) × FileDid reads writes syncs old.store more new.store
+    × ((left : List ℕ) → FileLeaves file (more ++ before) left → NoFrame left)
+
+-- two files of one size were read, and no record stands at the front of either
+pub record AreBlank {S : Type 0} (reads : Transfer S) (one two mid_one mid_two : LogFile S)
+    : Type 0 where
+  pub a : List ℕ
+  pub b : List ℕ
+  pub size : one.size ≡ two.size
+  pub long : (length a ≡ one.size) × (length b ≡ two.size)
+  pub read_one : reads one.store 0 a true mid_one.store
+  pub read_two : reads two.store 0 b true mid_two.store
+  pub same : (mid_one.size ≡ one.size) × (mid_two.size ≡ two.size)
+  pub blank : NoFrame a × NoFrame b
+
+-- What the making of a table does: it is refused, with nothing written, where the files have two
+-- sizes, one is not read, or a record stands at the front of one; or the second is wiped, in part; or
+-- it is empty, whatever a crash leaves of it, and a log is begun in the first, in part or durably.
 pub data CreatesLog {S : Type 0} (reads writes : Transfer S) (syncs : StoreSync S) (head : List ℕ)
     (one two : LogFile S) : Result (Unit {0}) LogFault → LogFile S → LogFile S → Type 0 where
-  unread : {new_one new_two : LogFile S} (why : LogFault) → (why ≡ Memory) ⊎ (why ≡ Device)
-      → IsOnlyRead reads writes syncs one new_one → IsOnlyRead reads writes syncs two new_two
+  sizes : one.size ≢ two.size → CreatesLog reads writes syncs head one two (Err OtherSize) one two
+  unread_one : {new_one : LogFile S} {why : LogFault} → one.size ≡ two.size
+      → IsUnread reads one.store new_one.store why
+      → CreatesLog reads writes syncs head one two (Err why) new_one two
+  unread_two : {new_one new_two : LogFile S} {why : LogFault} (a : List ℕ) → one.size ≡ two.size
+      → reads one.store 0 a true new_one.store → IsUnread reads two.store new_two.store why
       → CreatesLog reads writes syncs head one two (Err why) new_one new_two
-  has_log : {new_one new_two : LogFile S} (a b : List ℕ) → reads one.store 0 a true new_one.store
+  has_log : {new_one new_two : LogFile S} (a b : List ℕ) → one.size ≡ two.size
+      → (length a ≡ one.size) × (length b ≡ two.size) → reads one.store 0 a true new_one.store
       → reads two.store 0 b true new_two.store → ¬ NoFrame a ⊎ ¬ NoFrame b
       → CreatesLog reads writes syncs head one two (Err HasLog) new_one new_two
-  begun : {new_one new_two : LogFile S} (mid : LogFile S) (a b : List ℕ) (result : Result (Unit {0}) LogFault)
-      → reads one.store 0 a true mid.store → reads two.store 0 b true new_two.store
-      → NoFrame a → NoFrame b → BeginsLog reads writes syncs mid new_one 1 head (is_ok result)
+  unwiped : {new_one new_two : LogFile S} {why : LogFault} (mid : LogFile S)
+      → AreBlank reads one two new_one mid → (why ≡ Memory) ⊎ (why ≡ Device)
+      → WipesFile reads writes syncs mid.size mid.store false new_two.store
+      → CreatesLog reads writes syncs head one two (Err why) new_one new_two
+  begun : {new_one new_two : LogFile S} (mid_one mid_two : LogFile S)
+      (result : Result (Unit {0}) LogFault) → AreBlank reads one two mid_one mid_two
+      → EmptiesFile reads writes syncs mid_two new_two
+      → BeginsLog reads writes syncs mid_one new_one 1 head (is_ok result)
+      → IfErr result (BeginFault one.size 1 head)
       → CreatesLog reads writes syncs head one two result new_one new_two
 
 -- both files were read, and the log goes on in that of the older one, which is the second or not
@@ -185,14 +221,20 @@ pub record Moves {S P : Type 0} (reads writes : Transfer S) (syncs : StoreSync S
   pub refused : IfErr result (λ why. outcome ≡ Err why)
 
 -- why an opening does not come to the logs: the files are to have other lengths, there is no memory,
--- a file fails or is shorter, or another head than the wanted one stands in it
+-- the read of a file fails, or another head than the wanted one stands in it
 pub data UnreadFault {S : Type 0} (reads : Transfer S) (head : List ℕ) (one two : LogFile S)
     : TableFault → Type 0 where
   sizes : one.size ≢ two.size → UnreadFault reads head one two (Log OtherSize)
-  unread : {why : LogFault} → (why ≡ Memory) ⊎ (why ≡ Device) → UnreadFault reads head one two (Log why)
-  head_of_one : {why : LogFault} (bytes : List ℕ) (after : S) → reads one.store 0 bytes true after
+  no_memory : one.size ≡ two.size → UnreadFault reads head one two (Log Memory)
+  unread_one : {why : LogFault} (after : S) → one.size ≡ two.size → IsUnread reads one.store after why
+      → UnreadFault reads head one two (Log why)
+  unread_two : {why : LogFault} (after : S) → one.size ≡ two.size → IsUnread reads two.store after why
+      → UnreadFault reads head one two (Log why)
+  head_of_one : {why : LogFault} (bytes : List ℕ) (after : S) → one.size ≡ two.size
+      → reads one.store 0 bytes true after
       → OtherHead head bytes why → UnreadFault reads head one two (Log why)
-  head_of_two : {why : LogFault} (bytes : List ℕ) (after : S) → reads two.store 0 bytes true after
+  head_of_two : {why : LogFault} (bytes : List ℕ) (after : S) → one.size ≡ two.size
+      → reads two.store 0 bytes true after
       → OtherHead head bytes why → UnreadFault reads head one two (Log why)
 
 -- an opening that wrote nothing; or the log goes on in the second file, or in the first

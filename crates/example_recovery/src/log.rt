@@ -1,8 +1,8 @@
 //! A log in a file of a fixed length. Its first record names the table.
-ghost use Rattle.std.specs.Prelude.{◌≡◌, ◌⊎◌, ◌+◌, ◌-◌, ◌≤◌, ℕ, true, false, List, [], ◌∷◌, ◌++◌, length, replicate, IfOk, IfErr, OnOk, OnErr, is_ok};
+ghost use Rattle.std.specs.Prelude.{◌≡◌, ◌⊎◌, ◌+◌, ◌-◌, ◌≤◌, ℕ, true, false, List, [], ◌∷◌, ◌++◌, length, replicate, Err, IfOk, IfErr, OnOk, OnErr, is_ok};
 ghost use Rattle.example_recovery.specs.declared.log.LogFault.TheVariants.{Memory, Device as FileFailed};
 ghost use Rattle.example_recovery.specs.Files.{FileCall, FileDid, failed, written};
-ghost use Rattle.example_recovery.specs.LogFiles.{IsLogFile, EndsOnError, SamePlace, GoesOn, Begins, Settles};
+ghost use Rattle.example_recovery.specs.LogFiles.{IsLogFile, IsUnread, AppendFault, BeginFault, EndsOnError, HasRoom, SamePlace, GoesOn, Begins, Settles, WipesFile};
 
 use crate::frames::put_frame;
 use bp_ports::Store;
@@ -80,13 +80,11 @@ impl<S: Store> LogFile<S> {
         }
     }
 
-    /// Reads the whole file. `Memory`, and `Device` where the file fails or is shorter.
+    /// Reads the whole file. `Memory`, and nothing is read, and `Device` where the file fails or is shorter.
     pub fn read_all(&mut self, alloc: Global) -> Result<Vec<u8>, LogFault>
         ensures read { IfOk result (λ v. (length v.items ≡ self.old.size)
             × S.reads self.old.store 0 v.items true self.new.store) }
-        ensures unread { OnErr result ((self.new.store ≡ self.old.store)
-            ⊎ ((bytes : List ℕ) × S.reads self.old.store 0 bytes false self.new.store)) }
-        ensures fault { IfErr result (λ why. (why ≡ Memory) ⊎ (why ≡ FileFailed)) }
+        ensures unread { IfErr result (IsUnread S.reads self.old.store self.new.store) }
         ensures same { SamePlace self.old self.new }
     {
         let mut bytes = vec![in alloc; 0u8; self.size]?;
@@ -99,6 +97,7 @@ impl<S: Store> LogFile<S> {
     /// Writes bytes, or ends the log.
     fn write(&mut self, start: usize, bytes: &[u8]) -> Result<(), LogFault>
         ensures gives { S.writes self.old.store start bytes.now (is_ok result) self.new.store }
+        ensures fault { OnErr result (result ≡ Err FileFailed) }
         ensures ended { EndsOnError self.old self.new result }
         ensures same { SamePlace self.old self.new }
     {
@@ -119,6 +118,7 @@ impl<S: Store> LogFile<S> {
             GoesOn S.reads S.writes S.syncs self.old self.new first start calls (λ after synced.
             (after ≡ log) × OnOk result (synced ≡ length log) × OnErr result (synced ≡ durable)) }
         ensures gives { S.syncs self.old.store (is_ok result) self.new.store }
+        ensures fault { OnErr result (result ≡ Err FileFailed) }
         ensures ended { EndsOnError self.old self.new result }
         ensures same { SamePlace self.old self.new }
     {
@@ -132,7 +132,7 @@ impl<S: Store> LogFile<S> {
     }
 
     /// Appends a record, and returns its LSN. It is durable after the next `sync`. `Full` where the file has no room for
-    /// it, `Memory`, and `Ended`: the log is then as it was. After `Device` it has ended.
+    /// it or its LSN would be 2^64-1, `Memory`, and `Ended`: the log is then as it was. After `Device` it has ended.
     pub fn append(&mut self, alloc: Global, payload: &[u8]) -> Result<u64, LogFault>
         ensures life { (first : List ℕ) (start durable : ℕ) (calls : List FileCall)
             (log : List (List ℕ)) → IsLogFile first start calls log durable self.old →
@@ -141,6 +141,9 @@ impl<S: Store> LogFile<S> {
             × IfOk result (λ lsn. (lsn ≡ start + length log) × (after ≡ log ++ payload.now ∷ []))
             × OnErr result ((after ≡ log) ⊎ (after ≡ log ++ payload.now ∷ []))) }
         ensures alive { OnOk result (self.new.is_ended ≡ false) }
+        ensures next { IfOk result (λ lsn. lsn ≡ self.old.next) }
+        ensures room { OnOk result (HasRoom self.old payload.now) }
+        ensures fault { IfErr result (AppendFault S.writes self.old payload.now self.new) }
     {
         if self.is_ended {
             return Err(LogFault::Ended);
@@ -163,10 +166,11 @@ impl<S: Store> LogFile<S> {
     /// Writes records again that were read from the first byte on, and zeros behind them, and makes them durable: what was
     /// read may be in the system's memory alone. `Memory`, and `Device` where the file fails.
     pub fn settle(&mut self, alloc: Global, records: &[u8]) -> Result<(), LogFault>
-        ensures { (calls : List FileCall)
+        ensures did { (calls : List FileCall)
             × FileDid S.reads S.writes S.syncs self.old.store calls self.new.store
             × Settles (records.now ++ replicate (self.old.size - length records.now) 0) calls
             (is_ok result) }
+        ensures fault { IfErr result (λ why. (why ≡ Memory) ⊎ (why ≡ FileFailed)) }
     {
         let mut bytes = Vec::new(alloc);
         bytes.extend_from_slice(records)?;
@@ -177,20 +181,35 @@ impl<S: Store> LogFile<S> {
         Ok(())
     }
 
-    /// Wipes the file, and begins a log with this first record at an LSN from 1 on, which is then durable. What was in the
-    /// file counts until it is wiped. After an error the log has ended.
-    pub fn begin(&mut self, alloc: Global, lsn: u64, head: &[u8]) -> Result<(), LogFault>
-        requires { 1 ≤ lsn }
-        ensures ended { OnErr result (self.new.is_ended ≡ true) }
-        ensures begins { (first : List ℕ) (before : List FileCall) → failed before ≡ false →
-            length (written first before) ≡ length first → self.old.size ≡ length first →
-            Begins S.reads S.writes S.syncs self.old self.new first lsn before head.now
-            (is_ok result) }
+    /// Writes zeros over the whole file, and makes them durable: what a crash then leaves has no record. The log has ended.
+    /// `Memory`, and `Device` where the file fails.
+    pub fn wipe(&mut self, alloc: Global) -> Result<(), LogFault>
+        ensures wiped { WipesFile S.reads S.writes S.syncs self.old.size self.old.store
+            (is_ok result) self.new.store }
+        ensures ended { self.new.is_ended ≡ true }
+        ensures fault { IfErr result (λ why. (why ≡ Memory) ⊎ (why ≡ FileFailed)) }
+        ensures same { SamePlace self.old self.new }
     {
         self.is_ended = true;
         let zeros = vec![in alloc; 0u8; self.size]?;
         self.write(0, &zeros)?;
         self.sync()?;
+        Ok(())
+    }
+
+    /// Wipes the file, and begins a log with this first record at an LSN from 1 on, which is then durable. What was in the
+    /// file counts until it is wiped. After an error the log has ended: `Memory`, `Device`, and `Full` where the file has
+    /// no room for the record or the LSN is 2^64-1.
+    pub fn begin(&mut self, alloc: Global, lsn: u64, head: &[u8]) -> Result<(), LogFault>
+        requires { 1 ≤ lsn }
+        ensures ended { OnErr result (self.new.is_ended ≡ true) }
+        ensures fault { IfErr result (BeginFault self.old.size lsn head.now) }
+        ensures begins { (first : List ℕ) (before : List FileCall) → failed before ≡ false →
+            length (written first before) ≡ length first → self.old.size ≡ length first →
+            Begins S.reads S.writes S.syncs self.old self.new first lsn before head.now
+            (is_ok result) }
+    {
+        self.wipe(alloc)?;
         self.end = 0;
         self.next = lsn;
         self.is_ended = false;

@@ -6,6 +6,7 @@ ghost use Rattle.example_recovery.specs.Disk.{DeviceCall, Honest, MayBring, MayL
 ghost use Rattle.example_recovery.specs.Files.{FileCall, FileLeaves, SettledLeaves, synced, written};
 ghost use Rattle.example_recovery.specs.Heads.{head_of as head_is};
 ghost use Rattle.example_recovery.specs.Lives.{TellsTrue};
+ghost use Rattle.example_recovery.specs.LogFiles.{Wipes};
 ghost use Rattle.example_recovery.specs.Opening.{AreWithin, Beginning, BeginsBefore, CreatesLog, IsNewer, MayBeOpened, MovesLog, OpensLog, again_of};
 ghost use Rattle.example_recovery.specs.Promise.{MayBeRedone, Recovers};
 
@@ -37,8 +38,8 @@ fn check(device: &Geometry, changes: &[LogRecord]) -> Result<(), Refusal>
     Ok(())
 }
 
-/// Recovers from the newer of two logs with this head: writes it again, and so makes it durable, puts all its commits into the pages,
-/// durably, and begins a log in the file of the older one.
+/// Recovers from the newer of two logs with this head: writes it again, and so makes it durable, puts all its commits into
+/// the pages, durably, and begins a log in the file of the older one.
 fn move_log<R: Wait, S: Store, P: Port>(
     rt: &R,
     alloc: Global,
@@ -58,7 +59,7 @@ fn move_log<R: Wait, S: Store, P: Port>(
         return Err(TableFault::Log(LogFault::TwoLogs));
     }
     check(&port.geometry(), &found.changes)?;
-    if found.last == u64::MAX {
+    if found.last >= u64::MAX - 1 {
         return Err(TableFault::Log(LogFault::Full));
     }
     newer.settle(alloc, found.records)?;
@@ -67,9 +68,10 @@ fn move_log<R: Wait, S: Store, P: Port>(
     Ok(())
 }
 
-/// Begins the log of a table in the first of two files, over the pages as they are. `HasLog` where a record stands at the
-/// front of either file, `Memory`, and `Device` where a file fails or is shorter than it is to be: nothing is then
-/// written. After any other refusal the first file may be wiped, and this may be called again.
+/// Wipes the second of two files of one size, durably, and begins the log of a table in the first, over the pages as
+/// they are. `OtherSize`, `HasLog` where a record stands at the front of either file, `Memory`, `Device` where a file
+/// fails or is shorter than it is to be, and `Full` where the head has no room. Each file is then as it was, or it may be
+/// wiped, in part, and this may be called again.
 pub fn create<S: Store>(
     alloc: Global,
     table: &[u8],
@@ -80,6 +82,9 @@ pub fn create<S: Store>(
     ensures { CreatesLog S.reads S.writes S.syncs (head_is one.old.size device.now table.now)
         one.old two.old result one.new two.new }
 {
+    if one.size != two.size {
+        return Err(LogFault::OtherSize);
+    }
     let head = head_of(alloc, one.size, device, table)?;
     let a = one.read_all(alloc)?;
     let b = two.read_all(alloc)?;
@@ -89,6 +94,7 @@ pub fn create<S: Store>(
     if let Some(_) = read_frame(&b) {
         return Err(LogFault::HasLog);
     }
+    two.wipe(alloc)?;
     one.begin(alloc, 1, &head)
 }
 
@@ -130,6 +136,8 @@ pub fn open<R: Wait, S: Store, P: Port>(
 /// makes of the pages what they were to be, as often as it is stopped. Reads brought `seen` of the pages when it began,
 /// which a loss of power might have left too, and `first` is what it would have left. The newer log was written again
 /// before any page was.
+/// The other file may be as an opening left it that ended while it wiped it: it need not be durable, as long as no log
+/// that begins as late is in it, durably or not (`wiping`).
 /// When the opening is done each page is what it was to be, durably, and the log that was read begins before the one
 /// that goes on. It does nothing: its contract is the law. What is left before that is law `a_crash_is_mended`.
 pub fn an_opening_may_be_stopped()
@@ -153,11 +161,18 @@ pub fn an_opening_may_be_stopped()
         AreWithin pages size changes → MayBeRedone tears size 0 (reverse changes) wanted seen →
         MayBeRedone tears size 0 (reverse changes) wanted first → Honest tears seen calls →
         Recovers pages size 0 (reverse changes) calls true →
-        ((p : ℕ) → MayLeave tears first calls p (left p)) → BeginsBefore begun file →
-        synced file before ≡ file → written file before ≡ file →
+        ((p : ℕ) → MayLeave tears first calls p (left p)) →
+        length (written file before) ≡ length file → BeginsBefore begun (synced file before) →
+        BeginsBefore begun (written file before) →
         Beginning file (last + 1) table before log_calls → FileLeaves file log_calls left_older →
         TellsTrue (last + 1) (synced file log_calls) (written file log_calls) left_older →
         MayBeOpened tears size table left_newer left_older wanted left }
+    ensures wiping { (file : List ℕ) (begun : ℕ) (before more : List FileCall) →
+        length (written file before) ≡ length file → BeginsBefore begun (synced file before) →
+        BeginsBefore begun (written file before) → Wipes (length file) more →
+        (length (written file (more ++ before)) ≡ length file)
+        × BeginsBefore begun (synced file (more ++ before))
+        × BeginsBefore begun (written file (more ++ before)) }
     ensures done { (tears : Bool) (pages size : ℕ) (wanted seen first left : ℕ → List ℕ)
         (table newer older left_newer : List ℕ) (begun last : ℕ) (changes : List Record)
         (calls : List DeviceCall) →

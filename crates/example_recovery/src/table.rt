@@ -1,5 +1,5 @@
 //! A table: a pool for one owner, and a log in a file.
-ghost use Rattle.std.specs.Prelude.{◌≡◌, ◌⊎◌, ◌+◌, ◌++◌, ◌∷◌, [], ℕ, true, false, List, length, map, OnOk, OnErr, IfOk};
+ghost use Rattle.std.specs.Prelude.{◌≡◌, ◌⊎◌, ◌+◌, ◌<◌, ◌^◌, ◌++◌, ◌∷◌, [], ℕ, true, false, List, length, map, OnOk, OnErr, IfOk};
 ghost use Rattle.bp_trail.specs.declared.records.LogRecord.{LogRecord as Record};
 ghost use Rattle.bp_trail.specs.Trail.{Trail};
 ghost use Rattle.example_recovery.specs.Commits.{AreChanges, payload_of};
@@ -56,6 +56,9 @@ impl From<Refusal> for TableFault {
 
 /// The entries for which the pool's silent keeper has room.
 const ROOM: usize = 1 << 60;
+
+/// The first LSN under which nothing is committed. Each opening takes an LSN too: as many are left for these.
+const NO_COMMIT: u64 = 1 << 63;
 
 /// Returns the payload of a commit. `OutOfPage` where a change does not lie within a page of the file.
 fn payload(alloc: Global, device: &Geometry, changes: &[LogRecord]) -> Result<Vec<u8>, TableFault>
@@ -173,8 +176,9 @@ impl<S: Store, P: Port> Table<S, P> {
     }
 
     /// Commits changes, which may lie in several pages, and returns the LSN of the commit: the changes' own are not
-    /// looked at. A crash leaves all of them or none, and all once `make_durable` has passed. `OutOfPage` and `Memory`
-    /// before the commit began change nothing. After any other refusal the table has ended, and is to be opened again.
+    /// looked at. A crash leaves all of them or none, and all once `make_durable` has passed. `OutOfPage`, `Full` and
+    /// `Memory` before the commit began change nothing. After any other refusal the table has ended, and is to be opened
+    /// again. `Full` where the log has no room, or the LSN would be 2^63.
     pub fn commit<R: Wait>(
         &mut self,
         rt: &R,
@@ -183,6 +187,7 @@ impl<S: Store, P: Port> Table<S, P> {
     ) -> Result<u64, TableFault>
         ensures refused { OnErr result ((self.new.is_ended ≡ true)
             ⊎ ((self.new.pool ≡ self.old.pool) × (self.new.log ≡ self.old.log))) }
+        ensures limit { IfOk result (λ lsn. lsn < 2 ^ 63) }
         ensures goes { (table file : List ℕ) (start records : ℕ) (synced : Trail)
             (calls : List DeviceCall) (log_calls : List FileCall) (commits : List (List Record)) →
             IsTable table file start synced calls log_calls commits records [] self.old.pool
@@ -200,8 +205,17 @@ impl<S: Store, P: Port> Table<S, P> {
         }
         let device = self.pool.port().geometry();
         let payload = payload(alloc, &device, changes)?;
+        if self.log.next >= NO_COMMIT {
+            return Err(TableFault::Log(LogFault::Full));
+        }
+        let lsn = match self.log.append(alloc, &payload) {
+            Ok(lsn) => lsn,
+            Err(fault) => {
+                self.is_ended = self.log.is_ended;
+                return Err(TableFault::Log(fault));
+            }
+        };
         self.is_ended = true;
-        let lsn = self.log.append(alloc, &payload)?;
         for change in changes {
             match self.put(rt, change, lsn) {
                 Ok(()) => {}

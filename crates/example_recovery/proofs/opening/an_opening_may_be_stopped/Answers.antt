@@ -1,4 +1,4 @@
-use Rattle.example_recovery.proofs.Openings.{brings-leave, redoing, beginning, begins-before, left-is}
+use Rattle.example_recovery.proofs.Openings.{brings-leave, redoing, beginning, begins-before, left-is, wiping-before}
 use Rattle.example_recovery.proofs.opening.an_opening_may_be_stopped.Goals as goal
 
 pub returns-clause-seen : goal.returns-clause-seen
@@ -9,8 +9,11 @@ returns-clause-redoing c = λ tears pages size wanted seen first left table newe
     redoing tears pages size wanted seen first left table newer older left_newer begun last changes is settled m k left_older done calls later so_far below honest recovers e leaves
 
 pub returns-clause-beginning : goal.returns-clause-beginning
-returns-clause-beginning c = λ tears pages size wanted seen first left table newer older left_newer file left_older begun last changes calls before log_calls is settled within m k honest recovers leaves below s w b file_left tells.
-    beginning tears pages size wanted seen first left table newer older left_newer begun last changes is settled m k calls within honest recovers leaves file left_older before log_calls below s w b file_left tells
+returns-clause-beginning c = λ tears pages size wanted seen first left table newer older left_newer file left_older begun last changes calls before log_calls is settled within m k honest recovers leaves long below_synced below_written b file_left tells.
+    beginning tears pages size wanted seen first left table newer older left_newer begun last changes is settled m k calls within honest recovers leaves file left_older before log_calls long below_synced below_written b file_left tells
+
+pub returns-clause-wiping : goal.returns-clause-wiping
+returns-clause-wiping c = λ file begun before more long below_synced below_written wipes. wiping-before file before long begun below_synced below_written more wipes
 
 pub returns-clause-done : goal.returns-clause-done
 returns-clause-done c = λ tears pages size wanted seen first left table newer older left_newer begun last changes calls is settled within m k honest recovers leaves. (

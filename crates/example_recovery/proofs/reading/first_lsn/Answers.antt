@@ -1,4 +1,4 @@
-use Rattle.std.proofs.Common.{◌≡◌, ◌++◌, inr, refl, sym, ◌∙◌}
+use Rattle.std.proofs.Common.{◌≡◌, ◌++◌, inr, sym, ◌∙◌}
 use Rattle.example_recovery.specs.Frames.{IsRecord, NoFrame, frame}
 use Rattle.example_recovery.proofs.Framing.{frame-same}
 use Rattle.example_recovery.proofs.Heads.{some-of, none-of}

@@ -1,4 +1,4 @@
-use Rattle.std.proofs.Common.{◌≡◌, ◌∙◌, sym, refl, Bool, true, false, not, ap}
+use Rattle.std.proofs.Common.{◌∙◌, sym}
 use Rattle.std.proofs.lemmas.Slice.Eq.{bytes_eq-Decides}
 use Rattle.example_recovery.specs.Heads.HeadFault.{other_table, other_size, other_pages}
 use Rattle.example_recovery.proofs.Heads.{unnot, untrue}

@@ -1,5 +1,4 @@
 use Rattle.std.proofs.Common.{◌∙◌, ap, List, ℕ, ◌++◌}
-use Rattle.std.specs.Int.{w64, to_le_bytes}
 use Rattle.example_recovery.proofs.Heads.{put-head}
 use Rattle.example_recovery.proofs.reading.head_of.Goals as goal
 

@@ -1,12 +1,10 @@
-use Rattle.std.proofs.Common.{◌≡◌, ◌∙◌, ◌+◌, ◌++◌, refl, sym, ap, Bool, true, false, not, map, arith}
-use Rattle.example_recovery.specs.Commits.{log_of, payload_of}
+use Rattle.std.proofs.Common.{◌≡◌, ◌∙◌, ◌++◌, ap, arith}
+use Rattle.example_recovery.specs.Commits.{log_of}
 use Rattle.example_recovery.specs.Frames.{IsRecord, NoFrame, frame, frames}
 use Rattle.example_recovery.specs.Heads.{OtherHead, ReadFault}
 use Rattle.example_recovery.specs.Heads.ReadFault.{no_log, other_head, uneven}
 use Rattle.example_recovery.proofs.Heads.{before-rest, changes-fault, err-of, no-log, none-of, other-head, some-of, tells-any}
 use Rattle.example_recovery.proofs.CommitsRead.{shorter-frame, finds-first, finds-next, finds-all}
-use Rattle.example_recovery.proofs.Framing.{frame-same}
-use Rattle.example_recovery.proofs.Openings.{head-is}
 use Rattle.example_recovery.proofs.Refusals.{next-is, refused-on}
 use Rattle.example_recovery.proofs.reading.read_log.Goals as goal
 

@@ -1,10 +1,10 @@
-use Rattle.std.proofs.Common.{◌≡◌, ◌+◌, ◌++◌, ◌∷◌, [], ℕ, List, length, map, reverse, drop, inl, inr, refl, ap, subst, ◌∙◌, arith}
+use Rattle.std.proofs.Common.{◌≡◌, ◌+◌, ◌++◌, ◌∷◌, [], ℕ, List, length, map, reverse, drop, false, inl, inr, refl, sym, ap, subst, ◌∙◌, arith}
 use Rattle.std.specs.Prelude.{◌⊎◌}
 use Rattle.std.proofs.lemmas.List.{length-map, drop_all}
 use Rattle.bp_trail.specs.declared.records.LogRecord.{LogRecord}
 use Rattle.example_recovery.specs.Commits.{AreChanges, log_of, payload_of}
-use Rattle.example_recovery.specs.TableCalls.{under}
-use Rattle.example_recovery.proofs.LogFiles.{weaken, err-if}
+use Rattle.example_recovery.specs.TableCalls.{TableGoes, under}
+use Rattle.example_recovery.proofs.LogFiles.{weaken, err-if, same-or-ended}
 use Rattle.example_recovery.proofs.Tabling.{table-stays, table-then, table-weaken, log-appends, log-refuses, pending-next}
 use Rattle.example_recovery.proofs.table.Table.commit.Goals as goal
 
@@ -23,35 +23,49 @@ pub returns-in_err-payload-clause-goes : goal.returns-in_err-payload-clause-goes
 returns-in_err-payload-clause-goes g c = λ table file start records synced calls log_calls commits is.
     table-stays g.S.Store.reads g.S.Store.writes g.S.Store.syncs g.P.Port.read_gives g.P.Port.write_gives g.P.Port.sync_gives table file start synced calls log_calls commits records [] c.args.self.now.pool c.args.self.now.log is _ (inl refl, (λ e. refl), (err-if c.from_residual.result _ (Unit {0}) c.from_residual.ensures.0 tt).0)
 
-pub returns-in_err-lsn-clause-goes : goal.returns-in_err-lsn-clause-goes
-returns-in_err-lsn-clause-goes g c = λ table file start records synced calls log_calls commits is.
-    (let l = start + 1 + length commits in
-    let told = c.in_ok-payload.ensures l in
-    log-refuses g.S.Store.reads g.S.Store.writes g.S.Store.syncs g.P.Port.read_gives g.P.Port.write_gives g.P.Port.sync_gives table file start synced calls log_calls commits records [] c.args.self.now.pool c.args.self.now.log is c.append.new.self (map (under l) c.args.changes.now) (λ x n. Unit {0}) _ refl told.1
-    (weaken g.S.Store.reads g.S.Store.writes g.S.Store.syncs c.args.self.now.log c.append.new.self file start log_calls _ _ (λ x n p. (p.0, tt, either (log_of table commits) c.deref.result.now (payload_of (map (under l) c.args.changes.now)) x (c.deref.ensures.value ∙ told.0) p.2))
-    (c.in_err-lsn.ensures.life file start records log_calls (log_of table commits) is.file_is))
-    (inl refl, (λ e. absurd (cc)), (err-if c.from_residual-in_err-lsn.result _ (Unit {0}) c.from_residual-in_err-lsn.ensures.0 tt).0)
-    (inr refl, (λ e. absurd (cc)), (err-if c.from_residual-in_err-lsn.result _ (Unit {0}) c.from_residual-in_err-lsn.ensures.0 tt).0))
+pub returns-then-self-ge-NO_COMMIT-clause-goes : goal.returns-then-self-ge-NO_COMMIT-clause-goes
+returns-then-self-ge-NO_COMMIT-clause-goes g c = λ table file start records synced calls log_calls commits is.
+    table-stays g.S.Store.reads g.S.Store.writes g.S.Store.syncs g.P.Port.read_gives g.P.Port.write_gives g.P.Port.sync_gives table file start synced calls log_calls commits records [] c.args.self.now.pool c.args.self.now.log is _ (inl refl, (λ e. refl), tt)
 
-pub loop-change-init : goal.loop-change-init
-loop-change-init g c = λ table file start records synced calls log_calls commits is.
-    (let life = c.in_ok-lsn.ensures.life file start records log_calls (log_of table commits) is.file_is in
-    let told = c.in_ok-payload.ensures c.in_ok-lsn.lsn in
-    let lsn-is = count table commits start c.in_ok-lsn.lsn life.is_so.1.0 in (
-      lsn-is,
-      log-appends g.S.Store.reads g.S.Store.writes g.S.Store.syncs g.P.Port.read_gives g.P.Port.write_gives g.P.Port.sync_gives table file start synced calls log_calls commits records [] c.args.self.now.pool c.args.self.now.log is c.append.new.self (map (under c.in_ok-lsn.lsn) c.args.changes.now) _ refl (subst (λ (n : ℕ). AreChanges n (map (under c.in_ok-lsn.lsn) c.args.changes.now)) lsn-is told.1)
-          (weaken g.S.Store.reads g.S.Store.writes g.S.Store.syncs c.args.self.now.log c.append.new.self file start log_calls _ _ (λ x n p. (p.0, p.1.1 ∙ ap (λ (t : List ℕ). log_of table commits ++ t ∷ []) (c.deref.ensures.value ∙ told.0))) life) (refl, refl),
-    ))
+pub returns-clause-limit : goal.returns-clause-limit
+returns-clause-limit g c = omega (arith, c.in-Ok.ensures.next, c.if-self-ge-NO_COMMIT.false)
 
 pub returns-in-Err-clause-goes : goal.returns-in-Err-clause-goes
 returns-in-Err-clause-goes g c = λ table file start records synced calls log_calls commits is.
+    elim (same-or-ended g.S.Store.writes c.args.self.now.log c.append.new.self c.deref.result.now c.in-Err.fault c.in-Err.ensures.fault) [
+      | inl same ↦ subst (λ l. TableGoes g.S.Store.reads g.S.Store.writes g.S.Store.syncs g.P.Port.read_gives g.P.Port.write_gives g.P.Port.sync_gives c.args.self.now.pool c.args.self.now.pool c.args.self.now.log l table file start calls log_calls (λ after n left. ((after ≡ commits) ⊎ (after ≡ commits ++ map (under (start + 1 + length commits)) c.args.changes.now ∷ [])) × (c.append.new.self.is_ended ≡ false → left ≡ []) × Unit {0})) (sym same)
+          (table-stays g.S.Store.reads g.S.Store.writes g.S.Store.syncs g.P.Port.read_gives g.P.Port.write_gives g.P.Port.sync_gives table file start synced calls log_calls commits records [] c.args.self.now.pool c.args.self.now.log is _ (inl refl, (λ e. refl), tt))
+      | inr ended ↦ (let l = start + 1 + length commits in
+          let told = c.in_ok-payload.ensures l in
+          log-refuses g.S.Store.reads g.S.Store.writes g.S.Store.syncs g.P.Port.read_gives g.P.Port.write_gives g.P.Port.sync_gives table file start synced calls log_calls commits records [] c.args.self.now.pool c.args.self.now.log is c.append.new.self (map (under l) c.args.changes.now) (λ x n. Unit {0}) (λ after n left. ((after ≡ commits) ⊎ (after ≡ commits ++ map (under (start + 1 + length commits)) c.args.changes.now ∷ [])) × (c.append.new.self.is_ended ≡ false → left ≡ []) × Unit {0}) refl told.1
+          (weaken g.S.Store.reads g.S.Store.writes g.S.Store.syncs c.args.self.now.log c.append.new.self file start log_calls _ _ (λ x n p. (p.0, tt, either (log_of table commits) c.deref.result.now (payload_of (map (under l) c.args.changes.now)) x (c.deref.ensures.value ∙ told.0) p.2))
+          (c.in-Err.ensures.life file start records log_calls (log_of table commits) is.file_is))
+          (inl refl, (λ e. absurd (cc)), tt)
+          (inr refl, (λ e. absurd (cc)), tt))
+    ]
+
+pub returns-in-Err-clause-refused : goal.returns-in-Err-clause-refused
+returns-in-Err-clause-refused g c = elim (same-or-ended g.S.Store.writes c.args.self.now.log c.append.new.self c.deref.result.now c.in-Err.fault c.in-Err.ensures.fault) [ inl same ↦ inr (refl, same) | inr ended ↦ inl ended ]
+
+pub loop-change-init : goal.loop-change-init
+loop-change-init g c = λ table file start records synced calls log_calls commits is.
+    (let life = c.in-Ok.ensures.life file start records log_calls (log_of table commits) is.file_is in
+    let told = c.in_ok-payload.ensures c.in-Ok.lsn in
+    let lsn-is = count table commits start c.in-Ok.lsn life.is_so.1.0 in (
+      lsn-is,
+      log-appends g.S.Store.reads g.S.Store.writes g.S.Store.syncs g.P.Port.read_gives g.P.Port.write_gives g.P.Port.sync_gives table file start synced calls log_calls commits records [] c.args.self.now.pool c.args.self.now.log is c.append.new.self (map (under c.in-Ok.lsn) c.args.changes.now) _ refl (subst (λ (n : ℕ). AreChanges n (map (under c.in-Ok.lsn) c.args.changes.now)) lsn-is told.1)
+          (weaken g.S.Store.reads g.S.Store.writes g.S.Store.syncs c.args.self.now.log c.append.new.self file start log_calls _ _ (λ x n p. (p.0, p.1.1 ∙ ap (λ (t : List ℕ). log_of table commits ++ t ∷ []) (c.deref.ensures.value ∙ told.0))) life) (refl, refl),
+    ))
+
+pub returns-in-Err-put-clause-goes : goal.returns-in-Err-put-clause-goes
+returns-in-Err-put-clause-goes g c = λ table file start records synced calls log_calls commits is.
     (let v = c.loop-change.invariant table file start records synced calls log_calls commits is in
     let t = v.1 in
-    let u = under c.in_ok-lsn.lsn in
+    let u = under c.in-Ok.lsn in
     let changes = c.args.changes.now in
     let i = c.loop-change.change-index in
     let p = c.put.ensures (reverse (map u (drop (i + 1) changes))) table file start t.durable t.synced (t.more ++ calls) (t.more_log ++ log_calls) t.commits t.pending t.is
-    (t.is_so.1 ∙ pending-next c.in_ok-lsn.lsn changes i c.change-item.result c.loop-change-test.true c.change-item.is) in
+    (t.is_so.1 ∙ pending-next c.in-Ok.lsn changes i c.change-item.result c.loop-change-test.true c.change-item.is) in
     table-then g.S.Store.reads g.S.Store.writes g.S.Store.syncs g.P.Port.read_gives g.P.Port.write_gives g.P.Port.sync_gives table file start c.args.self.now.pool c.loop-change.self.pool c.put.new.self.pool c.args.self.now.log c.loop-change.self.log c.put.new.self.log calls log_calls _ _ t
     (table-weaken g.S.Store.reads g.S.Store.writes g.S.Store.syncs g.P.Port.read_gives g.P.Port.write_gives g.P.Port.sync_gives table file start _ _ _ _ (t.more ++ calls) (t.more_log ++ log_calls) _ _ (λ cs n left q. (inr (q.0 ∙ t.is_so.0 ∙ ap (λ (n : ℕ). commits ++ map (under n) changes ∷ []) v.0), (λ e. absurd (cc)), tt)) p))
 
@@ -59,11 +73,11 @@ pub loop-change-preserved : goal.loop-change-preserved
 loop-change-preserved g c = λ table file start records synced calls log_calls commits is.
     (let v = c.loop-change.invariant table file start records synced calls log_calls commits is in
     let t = v.1 in
-    let u = under c.in_ok-lsn.lsn in
+    let u = under c.in-Ok.lsn in
     let changes = c.args.changes.now in
     let i = c.loop-change.change-index in
-    let p = c.in-Ok.ensures (reverse (map u (drop (i + 1) changes))) table file start t.durable t.synced (t.more ++ calls) (t.more_log ++ log_calls) t.commits t.pending t.is
-    (t.is_so.1 ∙ pending-next c.in_ok-lsn.lsn changes i c.change-item.result c.loop-change-test.true c.change-item.is) in (
+    let p = c.in-Ok-put.ensures (reverse (map u (drop (i + 1) changes))) table file start t.durable t.synced (t.more ++ calls) (t.more_log ++ log_calls) t.commits t.pending t.is
+    (t.is_so.1 ∙ pending-next c.in-Ok.lsn changes i c.change-item.result c.loop-change-test.true c.change-item.is) in (
       v.0,
       table-then g.S.Store.reads g.S.Store.writes g.S.Store.syncs g.P.Port.read_gives g.P.Port.write_gives g.P.Port.sync_gives table file start c.args.self.now.pool c.loop-change.self.pool c.put.new.self.pool c.args.self.now.log c.loop-change.self.log c.put.new.self.log calls log_calls _ _ t
           (table-weaken g.S.Store.reads g.S.Store.writes g.S.Store.syncs g.P.Port.read_gives g.P.Port.write_gives g.P.Port.sync_gives table file start _ _ _ _ (t.more ++ calls) (t.more_log ++ log_calls) _ _ (λ cs n left q. (q.0 ∙ t.is_so.0, q.2)) p),
@@ -72,6 +86,6 @@ loop-change-preserved g c = λ table file start records synced calls log_calls c
 pub returns-clause-goes : goal.returns-clause-goes
 returns-clause-goes g c = λ table file start records synced calls log_calls commits is.
     (let v = c.loop-change.invariant table file start records synced calls log_calls commits is in
-    let none = ap (λ (t : List LogRecord). reverse (map (under c.in_ok-lsn.lsn) t)) (drop_all c.loop-change.change-index c.args.changes.now c.loop-change-test.false) in
+    let none = ap (λ (t : List LogRecord). reverse (map (under c.in-Ok.lsn) t)) (drop_all c.loop-change.change-index c.args.changes.now c.loop-change-test.false) in
     table-weaken g.S.Store.reads g.S.Store.writes g.S.Store.syncs g.P.Port.read_gives g.P.Port.write_gives g.P.Port.sync_gives table file start _ _ _ _ calls log_calls _ _
     (λ cs n left q. (inr (q.0 ∙ ap (λ (n : ℕ). commits ++ map (under n) c.args.changes.now ∷ []) v.0), (λ e. q.1 ∙ none), (v.0, refl, q.0))) v.1)
