@@ -26,4 +26,12 @@ impl PartPass {
     {
         &self.pass
     }
+
+    /// Returns the number of the part and the pass of its pool, which is to be spent there.
+    pub fn into_pass(self) -> (u8, Pass)
+        ensures { result ≡ (self.part, self.pass) }
+    {
+        let PartPass { part, pass } = self;
+        (part, pass)
+    }
 }
