@@ -195,8 +195,9 @@ impl<S: Store, P: Port> Table<S, P> {
         ensures refused { OnErr result ((self.new.is_ended ≡ true)
             ⊎ ((self.new.pool ≡ self.old.pool) × (self.new.log ≡ self.old.log))) }
         ensures limit { IfOk result (λ lsn. lsn < 2 ^ 63) }
-        ensures goes { (table : List ℕ) (cut : Cut) (file : List ℕ) (start records : ℕ) (synced : Trail)
-            (calls : List DeviceCall) (log_calls : List FileCall) (commits : List (List Record)) →
+        ensures goes { (table : List ℕ) (cut : Cut) (file : List ℕ) (start records : ℕ)
+            (synced : Trail) (calls : List DeviceCall) (log_calls : List FileCall)
+            (commits : List (List Record)) →
             IsTable table cut file start synced calls log_calls commits records [] self.old.pool
             self.old.log →
             TableGoes S.reads S.writes S.syncs P.read_gives P.write_gives P.sync_gives
