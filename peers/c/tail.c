@@ -61,9 +61,9 @@ static void fix(unsigned page, bool is_timed)
     hz_fixed fixed;
     if (hz_tick(&core, 0, 1))
         fail("tick");
-    uint64_t begin = now(clock_of_fixes);
+    uint64_t begin = is_timed ? now(clock_of_fixes) : 0;
     uint16_t refused = hz_fix(&core, 0, page, image, SIZE, &fixed);
-    uint64_t took = now(clock_of_fixes) - begin;
+    uint64_t took = is_timed ? now(clock_of_fixes) - begin : 0;
     if (refused)
         fail("fix");
     if (is_timed && timed < MOST)
