@@ -30,23 +30,22 @@ A_JOB, AT_A_TIME = 25, 3
 
 
 class SetUp(NamedTuple):
-    """The pages and their bytes, the bytes of each log, those that the disk keeps whole, and whether the first change
-    of a page since the log was begun is of all its bytes, as it has to be where pages tear."""
+    """The pages and their bytes, the bytes of each log, and those that the disk keeps whole: larger pages tear."""
 
     pages: int
     size: int
     log: int
     sector: int
-    images: int
 
 
 SET_UPS = [
-    SetUp(4, 64, 1024, 512, 0),
-    SetUp(16, 64, 8192, 512, 0),
-    SetUp(6, 512, 4096, 512, 0),
-    SetUp(3, 4096, 16384, 4096, 0),
-    SetUp(5, 1024, 16384, 512, 1),
-    SetUp(3, 4096, 65536, 512, 1),
+    SetUp(4, 64, 1024, 512),
+    SetUp(16, 64, 8192, 512),
+    SetUp(6, 512, 4096, 512),
+    SetUp(3, 4096, 16384, 4096),
+    SetUp(5, 1024, 16384, 512),
+    SetUp(3, 4096, 16384, 512),
+    SetUp(3, 4096, 65536, 512),
 ]
 
 
@@ -80,7 +79,7 @@ class Model:
     """The pages after each commit that may be the last one, by its number."""
 
     def __init__(self, set_up):
-        self.set_up, self.run, self.known = set_up, None, set()
+        self.set_up, self.run = set_up, None
         # The last commit that was acknowledged, and the last of which there are pages.
         self.least = self.newest = 0
         # What the next process has to see, or nothing once one has opened the table, which may commit.
@@ -98,11 +97,7 @@ class Model:
             page = below(state, self.set_up.pages)
             state = following(state)
             at = page * size + below(state, size // ROW) * ROW
-            if self.set_up.images and page not in self.known:
-                pages[page * size:(page + 1) * size] = row * (size // ROW)
-                self.known.add(page)
-            else:
-                pages[at:at + ROW] = row
+            pages[at:at + ROW] = row
         self.after[self.newest] = bytes(pages)
 
     def settle(self, number, is_durable=True):
@@ -124,7 +119,7 @@ class Model:
         pages = self.after[number]
         if shown != [int.from_bytes(pages[at:at + 8], "little") for at in range(0, len(pages), ROW)]:
             raise Failed(f"after commit {number} the rows are from {shown}")
-        self.run, self.seen, self.known = run, None, set()
+        self.run, self.seen = run, None
 
     def hear(self, run, said):
         """Follows what a process said."""
@@ -143,8 +138,6 @@ class Model:
                 shown = []
             elif self.seen is None and (number > self.least or told[1] == "checkpoint" and number == self.least):
                 self.settle(number)
-                if told[1] == "checkpoint":
-                    self.known = set()
             else:
                 raise Failed(f"it says {line!r} after commit {self.least}")
 
@@ -160,8 +153,7 @@ class Table:
         self.done("create", folder)
 
     def words(self, what, run=()):
-        images = [self.set_up.images] if run else []
-        return [self.program, what, *map(str, [*self.set_up[:3], *run, *images])]
+        return [self.program, what, *map(str, [*self.set_up[:3], *run])]
 
     def done(self, what, folder, run=(), **env):
         """Runs it to its end, which has to be a good one. Returns what it said."""

@@ -6,7 +6,8 @@
 It takes the table on its standard input. Places are in tenths of a pixel, from the left and the top, rounded as the
 program rounds them: the axis of frames goes from 800 to 7200, from the power of two at or below the least frames to
 the one at or above the greatest, and each doubling is as wide as any other. Within one each frame is as wide as any
-other. Of hit ratios 0 is at 4400, and 1 at 400. The head, with titles and looks, stands here as it stands there.
+other. The axis of hit ratios goes from 4400 up to 400, from the tenth at or below the least to the one at or above the
+greatest. The head, with titles and looks, stands here as it stands there.
 """
 import csv
 import fractions
@@ -40,10 +41,13 @@ TITLES = """\
 """
 
 
-class Axis:
-    """The axis of frames, from one power of two to another."""
+class Axes:
+    """The axis of frames, from one power of two to another, and that of hit ratios, from one tenth to another."""
 
-    def __init__(self, frames):
+    def __init__(self, rows):
+        frames, ratios = [row["frames"] for row in rows], [ratio_of(row) for row in rows]
+        self.first = min(math.floor(10 * min(ratios)), 9)
+        self.tenths = max(math.ceil(10 * max(ratios)) - self.first, 1)
         self.low = 0
         while 2 ** (self.low + 1) <= min(frames):
             self.low += 1
@@ -60,9 +64,14 @@ class Axis:
         return LEFT + math.floor(WIDTH * doublings / (self.high - self.low))
 
 
-def down(ratio):
-    """How far down a hit ratio is, rounded to the tenth of a pixel below it."""
-    return BOTTOM - math.floor(HEIGHT * ratio)
+    def down(self, ratio):
+        """How far down a hit ratio is, rounded to the tenth of a pixel below it."""
+        return BOTTOM - math.floor(HEIGHT * (10 * ratio - self.first) / self.tenths)
+
+    def hundredths(self):
+        """Where the grid lines of hit ratios are: seven to eleven of them."""
+        step = {1: 1, 2: 2, 3: 5, 4: 5, 5: 5}.get(self.tenths, 10)
+        return range(10 * self.first, 10 * (self.first + self.tenths) + 1, step)
 
 
 def head():
@@ -77,23 +86,23 @@ def head():
     yield TITLES
 
 
-def grid(axis):
+def grid(axes):
     """The grid lines with their numbers, and the line of both axes."""
-    for tenths in range(11):
-        at = down(fractions.Fraction(tenths, 10))
+    for hundredths in axes.hundredths():
+        at = axes.down(fractions.Fraction(hundredths, 100))
         yield f"<path class='grid' d='M{LEFT} {at}h{WIDTH}'/>"
-        yield f"<text class='left' x='720' y='{at}' dy='45'>{tenths / 10:.1f}</text>\n"
-    for power in range(axis.low, axis.high + 1):
-        at = axis.right(2 ** power)
+        yield f"<text class='left' x='720' y='{at}' dy='45'>{hundredths / 100:.2f}</text>\n"
+    for power in range(axes.low, axes.high + 1):
+        at = axes.right(2 ** power)
         yield f"<path class='grid' d='M{at} {BOTTOM - HEIGHT}v{HEIGHT}'/>"
         yield f"<text class='middle small' x='{at}' y='4600'>{2 ** power}</text>\n"
     yield f"<path class='axis' d='M{LEFT} {BOTTOM - HEIGHT}v{HEIGHT}h{WIDTH}'/>\n"
 
 
-def line(axis, number, k, rows):
+def line(axes, number, k, rows):
     """The line with this number from 0: its stroke, its marks, and its row of the legend."""
     rows = sorted(rows, key=lambda row: row["frames"])
-    places = [(axis.right(row["frames"]), down(ratio_of(row))) for row in rows]
+    places = [(axes.right(row["frames"]), axes.down(ratio_of(row))) for row in rows]
     yield "<g class='optimum'>\n" if k == "opt" else f"<g class='c{number % len(COLOURS)} d{number % len(DASHES)}'>\n"
     yield "<polyline points='" + "".join(f"{x},{y} " for x, y in places) + "'/>\n"
     for (x, y), row in zip(places, rows):
@@ -105,17 +114,17 @@ def line(axis, number, k, rows):
 
 
 def ratio_of(row):
-    return fractions.Fraction(row["hits"], row["fixes"]) if row["fixes"] else 0
+    return fractions.Fraction(row["hits"], row["fixes"]) if row["fixes"] else fractions.Fraction(0)
 
 
 def main():
     table = [{name: of if name == "k" else int(of or 0) for name, of in row.items() if name != "hit_ratio"}
              for row in csv.DictReader(sys.stdin)]
-    axis = Axis([row["frames"] for row in table])
+    axes = Axes(table)
     names = sorted({row["k"] for row in table}, key=lambda k: (k == "opt", int(k) if k != "opt" else 0))
-    pieces = [*head(), *grid(axis)]
+    pieces = [*head(), *grid(axes)]
     for number, k in enumerate(names):
-        pieces += line(axis, number, k, [row for row in table if row["k"] == k])
+        pieces += line(axes, number, k, [row for row in table if row["k"] == k])
     sys.stdout.write("".join(pieces) + "</svg>\n")
 
 

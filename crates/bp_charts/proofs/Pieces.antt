@@ -3,7 +3,7 @@ use Rattle.std.proofs.Common.{◌≡◌, ◌∙◌, ℕ, suc, ◌+◌, ◌^◌, 
 use Rattle.bp_charts.specs.declared.curves.Curve.{Curve}
 use Rattle.bp_charts.specs.declared.scale.Scale.{Scale}
 use Rattle.bp_charts.specs.Places.{down_of}
-use Rattle.bp_charts.specs.Axis.{tenth_text, tenths_text, tick_at, tick_text, ticks_text}
+use Rattle.bp_charts.specs.Axis.{ratio_at, ratio_line_text, ratio_lines_text, tick_at, tick_text, ticks_text}
 use Rattle.bp_charts.specs.Chart.{line_text, lines_text}
 
 drop-item : {X : Type 0} (xs : List X) (i : ℕ) (x : X) → i < length xs → x ≡ get_or xs i x → drop i xs ≡ x ∷ drop (i + 1) xs
@@ -18,6 +18,6 @@ pub ticks_text-next : (s : Scale) (step : ℕ) → ticks_text s (step + 1) ≡ t
 unfolding ticks_text
 ticks_text-next s step = let on : step + 1 ≡ suc step = omega arith in ap (ticks_text s) on
 
-pub tenths_text-next : (n : ℕ) → tenths_text (n + 1) ≡ tenths_text n ++ tenth_text (down_of n 10) n
-unfolding tenths_text
-tenths_text-next n = let on : n + 1 ≡ suc n = omega arith in ap tenths_text on
+pub ratio_lines_text-next : (s : Scale) (n : ℕ) → ratio_lines_text s (n + 1) ≡ ratio_lines_text s n ++ ratio_line_text (down_of s (ratio_at s n) 100) (ratio_at s n)
+unfolding ratio_lines_text
+ratio_lines_text-next s n = let on : n + 1 ≡ suc n = omega arith in ap (ratio_lines_text s) on

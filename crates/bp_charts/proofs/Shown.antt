@@ -1,5 +1,5 @@
 -- The lines of a table of cells, one cell and one line after the other.
-use Rattle.std.proofs.Common.{◌≡◌, ◌∙◌, ℕ, ◌+◌, ◌<◌, List, [], ◌∷◌, ◌++◌, take, length, get_or, sym, ap, subst}
+use Rattle.std.proofs.Common.{◌≡◌, ℕ, ◌+◌, ◌<◌, List, [], ◌∷◌, ◌++◌, take, length, get_or, sym, subst}
 use Rattle.std.proofs.lemmas.List.{take_more}
 use Rattle.bp_charts.specs.declared.curves.Which.{Which}
 use Rattle.bp_charts.specs.declared.curves.Curve.{Curve}

@@ -1,5 +1,5 @@
 -- The text of a line in the order in which its pieces are written, and the lines one after the other.
-use Rattle.std.proofs.Common.{◌≡◌, ◌+◌, ◌<◌, ◌++◌, ◌∷◌, ℕ, List, Option, Some, None, Result, Ok, Err, OnOk, codes, length, drop, get_or, ap, add-one, drop-cons, append_assoc}
+use Rattle.std.proofs.Common.{◌≡◌, ◌+◌, ◌<◌, ◌++◌, ℕ, List, Option, Some, None, Result, Ok, Err, OnOk, codes, length, drop, get_or, ap, add-one, drop-cons, append_assoc}
 use Rattle.std.specs.Fmt.{decimal}
 use Rattle.std.specs.Io.KnownBytes.{Appends}
 use Rattle.std.proofs.KnownBytes.{Appends-trans}

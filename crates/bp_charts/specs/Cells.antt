@@ -1,5 +1,5 @@
 -- The lines of a table of cells.
-use Rattle.std.specs.Prelude.{◌≡◌, ℕ, Bool, true, false, ◌==◌, if◌then◌else◌, List, [], ◌∷◌, ◌++◌, flat_map}
+use Rattle.std.specs.Prelude.{◌≡◌, Bool, true, false, ◌==◌, if◌then◌else◌, List, [], ◌∷◌, ◌++◌, flat_map}
 use Rattle.bp_charts.specs.declared.curves.Which.{Which}
 use Rattle.bp_charts.specs.declared.curves.Which.TheVariants.{K, Optimum}
 use Rattle.bp_charts.specs.declared.curves.Point.{Point}

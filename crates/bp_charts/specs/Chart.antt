@@ -5,7 +5,7 @@ use Rattle.bp_charts.specs.declared.curves.Curve.{Curve}
 use Rattle.bp_charts.specs.declared.scale.Scale.{Scale}
 use Rattle.bp_charts.specs.Scale.{scale_over, span_of}
 use Rattle.bp_charts.specs.Places.{stroke_of, mark_of}
-use Rattle.bp_charts.specs.Axis.{tenths_text, ticks_text}
+use Rattle.bp_charts.specs.Axis.{last_line, ratio_lines_text, ticks_text}
 use Rattle.bp_charts.specs.Labels.{style_text, legend_text}
 
 -- the line with this number: one stroke through all its points, a mark at each, and its row of the
@@ -28,10 +28,10 @@ lines_text s number (line ∷ later) = line_text s number line ++ lines_text s (
 abbrev pub axes_text : List ℕ
 axes_text = codes "<path class='axis' d='M800 400v4000h6400'/>\n"
 
--- a chart with this axis of frames
+-- a chart with these axes
 unfoldable pub chart_on : Scale → List Curve → List ℕ
 chart_on s lines =
-    HEAD.now ++ (tenths_text 11
+    HEAD.now ++ (ratio_lines_text s (last_line s + 1)
     ++ (ticks_text s (s.doublings + 1)
     ++ (axes_text ++ (lines_text s 0 lines ++ codes "</svg>\n"))))
 

@@ -13,13 +13,15 @@ right_of s frames =
     800 + 6400 * ((halvings frames - s.low) * 2 ^ halvings frames + (frames - 2 ^ halvings frames))
     / (s.doublings * 2 ^ halvings frames)
 
--- how far down the ratio of so many hits to so many fixes stands: one of 0 at 4400, and one of 1
--- higher by 4000
-abbrev pub down_of : ℕ → ℕ → ℕ
-down_of hits fixes = 4400 - 4000 * min hits fixes / max fixes 1
+-- how far down the ratio of so many hits to so many fixes stands: that with which the axis begins at
+-- 4400, and that with which it ends, or a greater one, higher by 4000
+abbrev pub down_of : Scale → ℕ → ℕ → ℕ
+down_of s hits fixes =
+    4400 - 4000 * min (10 * min hits fixes - s.from * max fixes 1) (s.tenths * max fixes 1)
+    / (s.tenths * max fixes 1)
 
 abbrev pub place_of : Scale → Point → Place
-place_of s p = record { right = right_of s p.frames; down = down_of p.hits p.fixes }
+place_of s p = record { right = right_of s p.frames; down = down_of s p.hits p.fixes }
 
 unfoldable pub place_text : Place → List ℕ
 place_text place = decimal place.right ++ codes "," ++ decimal place.down ++ codes " "

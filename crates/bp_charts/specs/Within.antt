@@ -1,6 +1,6 @@
 -- What a chart's places mean: every point stands within the axes, and the grid lines are numbered
 -- rightly.
-use Rattle.std.specs.Prelude.{◌≡◌, ℕ, ◌+◌, ◌^◌, ◌<◌, ◌≤◌, List, All}
+use Rattle.std.specs.Prelude.{◌≡◌, ℕ, ◌+◌, ◌*◌, ◌^◌, ◌<◌, ◌≤◌, min, max, List, All}
 use Rattle.bp_charts.specs.declared.curves.Curve.{Curve}
 use Rattle.bp_charts.specs.declared.curves.Point.{Point}
 use Rattle.bp_charts.specs.declared.places.Place.{Place}
@@ -14,11 +14,13 @@ pub record IsWithin (place : Place) : Type 0 where
   pub top : 400 ≤ place.down
   pub bottom : place.down ≤ 4400
 
--- the axis of frames goes from no more than the point's to no fewer, and the point stands within
--- the axes
+-- the axis of frames goes from no more than the point's to no fewer, that of hit ratios from no
+-- greater one to no lesser, and the point stands within the axes
 pub record IsOnAxes (s : Scale) (p : Point) : Type 0 where
   pub from : 2 ^ s.low ≤ p.frames
   pub to : p.frames ≤ 2 ^ (s.low + s.doublings)
+  pub ratio_from : s.from * max p.fixes 1 ≤ 10 * min p.hits p.fixes
+  pub ratio_to : 10 * min p.hits p.fixes ≤ (s.from + s.tenths) * max p.fixes 1
   pub within : IsWithin (place_of s p)
 
 -- some frames, and no more than a `usize` tells

@@ -4,7 +4,7 @@ ghost use Rattle.std.specs.Io.KnownBytes.{Appends};
 ghost use Rattle.bp_charts.specs.Scale.{IsScale};
 ghost use Rattle.bp_charts.specs.Chart.{chart_text, line_text, lines_text};
 
-use crate::axis::{write_tenths, write_ticks};
+use crate::axis::{write_ratios, write_ticks};
 use crate::curves::Curve;
 use crate::fixed::HEAD;
 use crate::labels::{write_legend, write_style};
@@ -54,7 +54,8 @@ fn write_lines<W: Write>(scale: &Scale, lines: &[Curve], writer: &mut W) -> io::
 
 /// Writes a picture of hit ratios over frames: SVG, 940 by 520 pixels. It has a grid, a legend, and each line with
 /// marks, a colour and a dash of its own. The axis of frames begins and ends at powers of two around all points, and
-/// each doubling has the same width; hit ratios go from 0 to 1. With no lines it has only the axes.
+/// each doubling has the same width. The axis of hit ratios begins and ends at tenths around all points. With no lines it
+/// has only the axes.
 ///
 /// The legend has room for 18 lines; points have no limit. A point with more hits than fixes is drawn at a ratio of 1,
 /// one without fixes at 0, and one without frames as one with one frame.
@@ -66,7 +67,7 @@ pub fn write_chart<W: Write>(lines: &[Curve], writer: &mut W) -> io::Result<()>
 {
     let scale = scale_of(lines);
     write_text(HEAD, writer)?;
-    write_tenths(writer)?;
+    write_ratios(&scale, writer)?;
     write_ticks(&scale, writer)?;
     write_text("<path class='axis' d='M800 400v4000h6400'/>\n", writer)?;
     write_lines(&scale, lines, writer)?;

@@ -9,10 +9,10 @@ use crate::scale::{LEFT, Scale, WIDTH, halvings};
 use std::io;
 use std::io::Write;
 
-/// The place of a hit ratio of 0, in tenths of a pixel from the picture's top.
+/// Where the axis of hit ratios begins, in tenths of a pixel from the picture's top.
 const BOTTOM: u128 = 4400;
 
-/// A hit ratio of 1 is so much higher, in tenths of a pixel.
+/// Its end is so much higher, in tenths of a pixel.
 const HEIGHT: u128 = 4000;
 
 /// A place, in tenths of a pixel from the picture's left and from its top.
@@ -35,11 +35,14 @@ fn right_of(scale: &Scale, frames: usize) -> u128
 }
 
 /// Returns the place of a hit ratio, in tenths of a pixel from the top.
-pub(crate) fn down_of(hits: u64, fixes: u64) -> u128
-    ensures { result ≡ down_of hits fixes }
+pub(crate) fn down_of(scale: &Scale, hits: u64, fixes: u64) -> u128
+    requires { IsScale scale.now }
+    ensures { result ≡ down_of scale.now hits fixes }
 {
-    let found = u128::from(hits.min(fixes));
-    BOTTOM - HEIGHT * found / u128::from(fixes.max(1))
+    let some = u128::from(fixes.max(1));
+    let all = scale.tenths * some;
+    let above = (10 * u128::from(hits.min(fixes))).saturating_sub(scale.from * some);
+    BOTTOM - HEIGHT * above.min(all) / all
 }
 
 fn place_of(scale: &Scale, point: &Point) -> Place
@@ -48,7 +51,7 @@ fn place_of(scale: &Scale, point: &Point) -> Place
 {
     Place {
         right: right_of(scale, point.frames),
-        down: down_of(point.hits, point.fixes),
+        down: down_of(scale, point.hits, point.fixes),
     }
 }
 

@@ -1,4 +1,5 @@
-//! The axis of frames: it begins and ends at powers of two, and each doubling has the same width.
+//! The axes. That of frames begins and ends at powers of two, and each doubling has the same width; that of hit ratios
+//! begins and ends at tenths.
 ghost use Rattle.std.specs.Prelude.{◌≡◌, ◌≤◌, fold};
 ghost use Rattle.bp_charts.specs.Scale.{IsScale, and_point, halvings, scale_over, span_of};
 
@@ -10,18 +11,22 @@ pub(crate) const LEFT: u128 = 800;
 /// The width of the axis, in tenths of a pixel.
 pub(crate) const WIDTH: u128 = 6400;
 
-/// The least and the greatest number of frames.
+/// The least and the greatest number of frames, and the tenths around all hit ratios.
 #[derive(Clone, Copy)]
 pub(crate) struct Span {
     least: usize,
     greatest: usize,
+    lowest: u128,
+    highest: u128,
 }
 
-/// An axis of frames, from `2^low` to `2^(low + doublings)`.
+/// An axis of frames, from `2^low` to `2^(low + doublings)`, and one of hit ratios, from so many tenths on.
 #[derive(Clone, Copy)]
 pub(crate) struct Scale {
     pub(crate) low: u32,
     pub(crate) doublings: u32,
+    pub(crate) from: u128,
+    pub(crate) tenths: u128,
 }
 
 /// Returns how often a number can be halved before it is below two.
@@ -38,9 +43,13 @@ fn widen(span: Span, points: &[Point]) -> Span
 {
     let mut wide = span;
     for point in points {
+        let fixes = u128::from(point.fixes.max(1));
+        let tenfold = 10 * u128::from(point.hits.min(point.fixes));
         wide = Span {
             least: wide.least.min(point.frames),
             greatest: wide.greatest.max(point.frames),
+            lowest: wide.lowest.min(tenfold / fixes),
+            highest: wide.highest.max((tenfold + fixes - 1) / fixes),
         };
     }
     wide
@@ -53,6 +62,8 @@ fn span_of(lines: &[Curve]) -> Span
     let mut span = Span {
         least: usize::MAX,
         greatest: 1,
+        lowest: 9,
+        highest: 0,
     };
     for line in lines {
         span = widen(span, line.points.as_slice());
@@ -60,20 +71,23 @@ fn span_of(lines: &[Curve]) -> Span
     span
 }
 
-/// Returns the axis over a span: at least one doubling.
+/// Returns the axes over a span: at least one doubling, and at least one tenth.
 fn scale_over(span: Span) -> Scale
     ensures scale { result ≡ scale_over span }
     ensures sound { IsScale result }
 {
     let low = halvings(span.least.min(span.greatest));
     let high = halvings(span.greatest.saturating_sub(1)) + 1;
+    let from = span.lowest.min(9);
     Scale {
         low,
         doublings: high.saturating_sub(low).max(1),
+        from,
+        tenths: span.highest.min(10).saturating_sub(from).max(1),
     }
 }
 
-/// Returns the axis over the points of all lines.
+/// Returns the axes over the points of all lines.
 pub(crate) fn scale_of(lines: &[Curve]) -> Scale
     ensures scale { result ≡ scale_over (span_of lines.now) }
     ensures sound { IsScale result }

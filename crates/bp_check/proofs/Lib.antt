@@ -1,5 +1,6 @@
 -- Lemmas.
 pub mod Reversed
+pub mod Comparing
 pub mod SpanLemmas
 pub mod References
 pub mod Noted

@@ -1,5 +1,5 @@
 -- What a fix and a flush by a driver add to its core.
-use Rattle.std.specs.Prelude.{◌≡◌, ℕ, List, true, false, Option, Some, None, Result, Ok}
+use Rattle.std.specs.Prelude.{◌≡◌, ℕ, List, true, false, Option, Some, None, IsSomeAnd, Result, Ok}
 use Rattle.std.specs.Prelude.{Err}
 use Rattle.bp_page.specs.declared.refusals.Refusal.{Refusal}
 use Rattle.bp_page.specs.declared.refusals.Refusal.TheVariants as refusal
@@ -13,8 +13,10 @@ use Rattle.bp_trail.specs.declared.ends.Ended.{Ended}
 use Rattle.bp_core.specs.declared.passes.Fix.{Fix as Fixing}
 use Rattle.bp_core.specs.declared.passes.Fix.TheVariants as fixing
 use Rattle.bp_trail.specs.declared.entries.Call.{Call}
-use Rattle.bp_trail.specs.declared.entries.Call.TheVariants.{ReadEnd, WriteEnd}
-use Rattle.bp_trail.specs.declared.entries.Reply.TheVariants.{Fixed, NeedLog, WriteFailed}
+use Rattle.bp_trail.specs.declared.entries.Call.TheVariants.{Fix, ReadEnd, WriteEnd}
+use Rattle.bp_trail.specs.declared.entries.Reply.{Reply}
+use Rattle.bp_trail.specs.declared.entries.Reply.TheVariants.{Busy, Fixed, NeedLog, NoVictim}
+use Rattle.bp_trail.specs.declared.entries.Reply.TheVariants.{ReadFailed, WriteFailed, WrongPage}
 use Rattle.bp_trail.specs.Event.{Grant, grant}
 use Rattle.bp_trail.specs.Trail.{Trail}
 use Rattle.bp_trail.specs.Ends.{read_refusal, read_failure, ended_reply, flushed_reply}
@@ -51,14 +53,28 @@ DrivesFlush old client page (Err refusal) new =
     AddsPiece old (λ piece. FlushPiece driver client page piece (refused (number_of refusal))) None
     new
 
--- why a driver's fix or flush, which asks for so much room, is refused, by what it leaves: 20 where
--- the core has less room, 22 where it has as much and the call takes memory, and 12 with the LSN of
--- the newest entry
-abbrev pub IsCaused : ℕ → Call → Refusal → CoreView → Type 0
-IsCaused n call refusal.TrailFull core = LacksRoomFor n core
-IsCaused n call refusal.OutOfMemory core = HasRoomFor n core × TakesMemory call core
-IsCaused n call (refusal.NeedLog lsn) core = Ends (NeedLog lsn) core.past
-IsCaused n call _ core = Unit {0}
+-- for how many entries the core is to have room where a driver fixes or flushes
+abbrev pub room_of : Call → ℕ
+room_of (Fix page) = 3
+room_of _ = 2
+
+-- the reply of the entry by which a driver's fix or flush is refused so, if it is by one
+abbrev pub reply_of_refusal : Refusal → Option Reply
+reply_of_refusal refusal.NoVictim = Some NoVictim
+reply_of_refusal (refusal.NeedLog lsn) = Some (NeedLog lsn)
+reply_of_refusal refusal.Busy = Some Busy
+reply_of_refusal refusal.ReadFailed = Some ReadFailed
+reply_of_refusal refusal.WrongPage = Some WrongPage
+reply_of_refusal refusal.WriteFailed = Some WriteFailed
+reply_of_refusal _ = None
+
+-- why a driver's fix or flush is refused, by the core that it leaves: 20 where that has less room
+-- than the call wants, 22 where it has as much and the call takes memory, and any other refusal
+-- where it is the reply of the newest entry
+abbrev pub IsCaused : Call → Refusal → CoreView → Type 0
+IsCaused call refusal.TrailFull core = LacksRoomFor (room_of call) core
+IsCaused call refusal.OutOfMemory core = HasRoomFor (room_of call) core × TakesMemory call core
+IsCaused call why core = IsSomeAnd (reply_of_refusal why) (λ reply. Ends reply core.past)
 
 -- of what has its device read nothing
 abbrev pub NoRead : {A : Type 0} → A → ℕ → Result (List ℕ) PortFault → A → Type 0

@@ -70,7 +70,7 @@ pub record TicksAndFixes (ticks : Bool) (old : CoreView) (page : ℕ) (result : 
   pub mid : CoreView
   pub ticked : IsTicked ticks old mid
   pub fixed : DrivesFix mid 0 page result new
-  pub caused : IfErr result (λ why. IsCaused 3 (call.Fix page) why new)
+  pub caused : IfErr result (λ why. IsCaused (call.Fix page) why new)
 
 -- a fix by the owner: where its tick is refused, that is all
 abbrev pub OwnerFixes : Bool → CoreView → ℕ → Result Pass Refusal → CoreView → Type 0
@@ -81,7 +81,7 @@ OwnerFixes ticks old page result new =
 pub record OwnerFlushes (old : CoreView) (page : ℕ) (result : Result Flushed Refusal)
     (new : CoreView) : Type 0 where
   pub flushed : DrivesFlush old 0 page result new
-  pub caused : IfErr result (λ why. IsCaused 2 (call.Flush page) why new)
+  pub caused : IfErr result (λ why. IsCaused (call.Flush page) why new)
 
 -- a call that changes its core alone
 abbrev pub KeepsPort : {P : Type 0} → OwnedView P → OwnedView P → Type 0

@@ -63,7 +63,7 @@ fn fix_saving_victim<K: Keeper, P: Port, R: Wait>(
     requires client_in { client < core.old.parameters.clients }
     requires page_in { page < core.old.parameters.pages }
     ensures outcome { SavingOutcome core.old client page result core.new }
-    ensures cause { IfErr result (λ why. IsCaused 3 (call.Fix page) why core.new) }
+    ensures cause { IfErr result (λ why. IsCaused (call.Fix page) why core.new) }
     ensures work { DoesWork NoRead P.write_gives core.old port.old core.new port.new }
     ensures geometry { P.geometry_of port.new ≡ P.geometry_of port.old }
 {
@@ -94,7 +94,7 @@ pub fn drive_fix<K: Keeper, P: Port, R: Wait>(
     requires client_in { client < core.old.parameters.clients }
     requires page_in { page < core.old.parameters.pages }
     ensures outcome { DrivesFix core.old client page result core.new }
-    ensures cause { IfErr result (λ why. IsCaused 3 (call.Fix page) why core.new) }
+    ensures cause { IfErr result (λ why. IsCaused (call.Fix page) why core.new) }
     ensures work { DoesWork P.read_gives P.write_gives core.old port.old core.new port.new }
     ensures geometry { P.geometry_of port.new ≡ P.geometry_of port.old }
 {
@@ -137,7 +137,7 @@ pub fn drive_new<K: Keeper, P: Port, R: Wait>(
     requires client_in { client < core.old.parameters.clients }
     requires page_in { page < core.old.parameters.pages }
     ensures outcome { DrivesFix core.old client page result core.new }
-    ensures cause { IfErr result (λ why. IsCaused 3 (call.Fix page) why core.new) }
+    ensures cause { IfErr result (λ why. IsCaused (call.Fix page) why core.new) }
     ensures work { DoesWork (MadeBlank core.old.parameters.size) P.write_gives
         core.old port.old core.new port.new }
     ensures geometry { P.geometry_of port.new ≡ P.geometry_of port.old }
@@ -169,7 +169,7 @@ pub fn drive_flush<K: Keeper, P: Port, R: Wait>(
     requires client_in { client < core.old.parameters.clients }
     requires page_in { page < core.old.parameters.pages }
     ensures outcome { DrivesFlush core.old client page result core.new }
-    ensures cause { IfErr result (λ why. IsCaused 2 (call.Flush page) why core.new) }
+    ensures cause { IfErr result (λ why. IsCaused (call.Flush page) why core.new) }
     ensures work { DoesWork P.read_gives P.write_gives core.old port.old core.new port.new }
     ensures geometry { P.geometry_of port.new ≡ P.geometry_of port.old }
 {

@@ -23,7 +23,7 @@ pub fn drive_flush_all<K: Keeper, P: Port, R: Wait>(
 ) -> Result<(), NotFlushed>
     requires client_in { client < core.old.parameters.clients }
     ensures outcome { FlushesAll client core.old result core.new }
-    ensures cause { IfErr result (λ stop. IsCaused 2 (call.Flush stop.page) stop.why core.new) }
+    ensures cause { IfErr result (λ stop. IsCaused (call.Flush stop.page) stop.why core.new) }
     ensures work { DoesWork P.read_gives P.write_gives core.old port.old core.new port.new }
     ensures geometry { P.geometry_of port.new ≡ P.geometry_of port.old }
     ensures parameters { core.new.parameters ≡ core.old.parameters }

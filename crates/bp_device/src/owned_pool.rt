@@ -279,7 +279,7 @@ impl<K: Keeper, P: Port> OwnedPool<K, P> {
     pub fn flush_all<R: Wait>(&mut self, rt: &R) -> Result<(), NotFlushed>
         ensures outcome { FlushesAll 0 self.old.core result self.new.core }
         ensures cause { IfErr result
-            (λ stop. IsCaused 2 (call.Flush stop.page) stop.why self.new.core) }
+            (λ stop. IsCaused (call.Flush stop.page) stop.why self.new.core) }
         ensures work { DoesWork P.read_gives P.write_gives
             self.old.core self.old.port self.new.core self.new.port }
         ensures ticking { self.new.is_ticking ≡ self.old.is_ticking }

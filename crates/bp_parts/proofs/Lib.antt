@@ -3,3 +3,6 @@ mod Returning
 mod Striped
 mod Asking
 mod Raising
+pub mod Placing
+mod Closing
+mod Dealing

@@ -1,6 +1,6 @@
 -- A pass that did not go back.
-use Rattle.std.proofs.Common.{◌≡◌, ap, ◌∙◌, ℕ, List, Result, Ok, Err, slice_index_or, slice_set}
-use Rattle.std.proofs.lemmas.List.{set-get_or}
+use Rattle.std.proofs.Common.{◌≡◌, ap, sym, subst, ◌∙◌, ℕ, ◌<◌, List, Result, Ok, Err, length, slice_index_or, slice_set}
+use Rattle.std.proofs.lemmas.List.{set-get_or, get_or_default}
 use Rattle.bp_page.specs.declared.refusals.Refusal.{Refusal}
 use Rattle.bp_page.specs.declared.refusals.Refusal.TheVariants as refusal
 use Rattle.bp_core.specs.declared.passes.Pass.{Pass}
@@ -12,6 +12,16 @@ pub handed_back : (was is : SessionValue) (pass back : Pass) (why : Refusal) →
 handed_back was is pass back refusal.UnknownPass said = (said.1, said.2)
 handed_back was is pass back refusal.RingFull said = (said.1, said.2)
 handed_back was is pass back _ said = absurd said
+
+-- so the session that stands in this part says of it
+pub not_taken : (xs : List SessionValue) (part : ℕ) (was is d : SessionValue) (pass back : Pass) (why : Refusal) → was ≡ slice_index_or xs part d → part < length xs
+    → UnfixSaid {A = Unit {0}} was pass (Err (back, why)) is
+    → (e : SessionValue) → UnfixSaid {A = Unit {0}} (slice_index_or xs part e) pass (Err (pass, why)) (slice_index_or xs part e)
+not_taken xs part was is d pass back why stood below said e =
+    let same = handed_back was is pass back why said in
+    let here : UnfixSaid {A = Unit {0}} was pass (Err (pass, why)) was =
+    subst (λ b. UnfixSaid {A = Unit {0}} was pass (Err (b, why)) was) same.0 (subst (λ s. UnfixSaid {A = Unit {0}} was pass (Err (back, why)) s) same.1 said) in
+    subst (λ s. UnfixSaid {A = Unit {0}} s pass (Err (pass, why)) s) (stood ∙ sym (get_or_default xs part e d below)) here
 
 -- whether it went back or not, the session is in its part
 pub unfix_stays : {A : Type 0} (was is : SessionValue) (pass : Pass) (r : Result A (Pass × Refusal)) → UnfixSaid was pass r is → is.part ≡ was.part

@@ -4,3 +4,7 @@ pub mod Calls
 pub mod Redo
 pub mod Flushes
 pub mod Logs
+-- How all parts are made, and end.
+pub mod Places
+pub mod Making
+pub mod Ending

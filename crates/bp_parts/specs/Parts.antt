@@ -1,6 +1,7 @@
 -- The parts of a pool, and what a call does in one of them.
-use Rattle.std.specs.Prelude.{◌≡◌, ℕ, ◌<◌, ◌/◌, ◌%◌, List, length, slice_index_or, slice_set, Result, Ok, Err}
+use Rattle.std.specs.Prelude.{◌≡◌, ℕ, ◌<◌, ◌≤◌, ◌/◌, ◌%◌, List, length, slice_index_or, slice_set, Result, Ok, Err}
 use Rattle.bp_page.specs.declared.refusals.Refusal.{Refusal}
+use Rattle.bp_page.specs.declared.refusals.Refusal.TheVariants.{UnknownPass}
 use Rattle.bp_core.specs.declared.passes.Pass.{Pass}
 use Rattle.bp_shared.specs.Sessions.{SessionValue, IsRoomy, UnfixSaid}
 use Rattle.bp_parts.specs.declared.passes.PartPass.{PartPass}
@@ -63,9 +64,19 @@ pub record Unfixes (pass : Pass) (old new : SessionValue) : Type 0 where
   pub roomy : IsRoomy old → IsRoomy new
   pub outcome : UnfixSaid {A = Unit {0}} old pass (Ok tt) new
 
--- a pass goes back to its part, or is handed back and nothing changes
-abbrev pub UnfixedIn : {A : Type 0} → PartedValue → PartPass → Result A (PartPass × Refusal)
+-- the session of this part does not take its pass back, for this cause, and stays as it is
+abbrev pub IsHandedBack : PartedValue → PartPass → Refusal → Type 0
+IsHandedBack old pass why =
+    (d : SessionValue)
+    → UnfixSaid {A = Unit {0}} (slice_index_or old.sessions pass.part d) pass.pass
+    (Err (pass.pass, why)) (slice_index_or old.sessions pass.part d)
+
+-- a pass goes back to its part; or it is handed back, and nothing changes: as its part's session hands
+-- it back, or since there is no such part
+abbrev pub UnfixedIn : {A : Type 0} → ℕ → PartedValue → PartPass → Result A (PartPass × Refusal)
     → PartedValue → Type 0
-UnfixedIn old pass (Ok done) new =
+UnfixedIn parts old pass (Ok done) new =
     InPart pass.part old new (Unfixes pass.pass)
-UnfixedIn old pass (Err (back, why)) new = (back ≡ pass) × (new ≡ old)
+UnfixedIn parts old pass (Err (back, why)) new =
+    (back ≡ pass) × (new ≡ old) × (parts ≤ pass.part → why ≡ UnknownPass)
+    × (pass.part < parts → IsHandedBack old pass why)

@@ -6,12 +6,16 @@
 //! of a fix is its part's own, so the pool as a whole does not replace by LRU-K, but each part does.
 #![tactic(auto)]
 
+pub mod ending;
 pub mod log_writer;
+pub mod making;
 pub mod passes;
 pub mod pool;
 pub mod sessions;
 
+pub use ending::{EndRoom, EndedParts, end_parts};
 pub use log_writer::PartedLog;
+pub use making::{Parted, make_parts, new_cores, new_names};
 pub use passes::PartPass;
 pub use pool::{PartCount, PartedPool};
 pub use sessions::PartedSession;

@@ -168,14 +168,14 @@ impl<N: PartNames + PartCount, K: ListKeeper> PartedPool<N, K> {
         }
     }
 
-    /// Gives a pass back in its part, as `SharedPool::unfix` does: no lock is taken. A pass of a part that there is not
-    /// is `UnknownPass`.
+    /// Gives a pass back in its part, as `SharedPool::unfix` does, and refused as there: no lock is taken. A pass of a
+    /// part that there is not is `UnknownPass`.
     pub fn unfix(
         &self,
         session: &mut PartedSession<N, K>,
         pass: PartPass,
     ) -> Result<(), (PartPass, Refusal)>
-        ensures outcome { UnfixedIn session.old pass result session.new }
+        ensures outcome { UnfixedIn N.parts session.old pass result session.new }
     {
         let PartPass { part, pass } = pass;
         let at = part as usize;
@@ -197,7 +197,7 @@ impl<N: PartNames + PartCount, K: ListKeeper> PartedPool<N, K> {
         session: &mut PartedSession<N, K>,
         pass: PartPass,
     ) -> Result<(), (PartPass, Refusal)>
-        ensures outcome { UnfixedIn session.old pass result session.new }
+        ensures outcome { UnfixedIn N.parts session.old pass result session.new }
         ensures room { IfErr result (λ back. back.1 ≡ Refusal.UnknownPass) }
     {
         let PartPass { part, pass } = pass;
@@ -208,7 +208,7 @@ impl<N: PartNames + PartCount, K: ListKeeper> PartedPool<N, K> {
         let mine = &mut session.sessions[at];
         match self.pool_of(mine).unfix_draining(rt, mine, pass) {
             Ok(()) => Ok(()),
-            Err((pass, refusal)) => Err((PartPass { part, pass }, refusal)),
+            Err((pass, why)) => Err((PartPass { part, pass }, why)),
         }
     }
 

@@ -21,7 +21,7 @@ use Rattle.bp_trail.specs.Legal.{Legal}
 use Rattle.bp_trail.specs.Pieces.Manner.{session}
 use Rattle.bp_scripts.specs.Script.{FollowsBy, GivesBack, Follows}
 use Rattle.bp_trail.specs.Clients.{of_client}
-use Rattle.bp_trail.proofs.Comparing.{of_client-reverse}
+use Rattle.bp_trail.proofs.OfClient.{of_client-reverse}
 use Rattle.bp_scripts.specs.LogBound.{IsWithinLog}
 use Rattle.bp_core.specs.CoreView.{CoreView}
 use Rattle.bp_core.specs.Work.{Reads, Writes, WorksThrough}
@@ -33,7 +33,7 @@ use Rattle.bp_workers.specs.Runs.{KeepsUp, LeftBy}
 use Rattle.bp_workers.proofs.Lining.{as_long, as_many}
 use Rattle.bp_replay.specs.Scripts.{list_of, lists, NoneIsStrange}
 use Rattle.bp_replay.specs.Players.{PlayerValue, new_player, new_players, PlayerLeaves, LeftValue, left_value, Agrees}
-use Rattle.bp_replay.specs.ScriptRuns.{SaidIsTheirs, EachFollows, MarksWithinLog, PortsWork, IsRun, Joined}
+use Rattle.bp_replay.specs.ScriptRuns.{SaidIsTheirs, EachFollows, PortsWork, IsRun, Joined}
 use Rattle.bp_replay.proofs.Following.{gives-back}
 use Rattle.bp_replay.proofs.Playing.{whole-work}
 use Rattle.bp_replay.proofs.Making.{length-new_players}
@@ -82,10 +82,10 @@ module _ {P K I B S : Type 0} (reads : Reads P) (writes : Writes P) (core : Core
     follows = λ done.
         let both = and_parts left.worker.is_done left.all_went_back done in
         let rows = is.leaves.0.plays both.0 in
-        record { by_rows = is.returned.said; pieces = rows.pieces; gives_back = gives-back is.returned.said left.book.said is.back (is.all_back.0 both.1); known = rows.known };
+        record { by_rows = is.returned.said; pieces = rows.pieces; gives_back = gives-back is.returned.said left.book.said is.back is.all_back.1; known = rows.known };
     works = λ done.
         let both = and_parts left.worker.is_done left.all_went_back done in
-        whole-work reads writes is.returned.said left.book.said port left.port (is.leaves.0.plays both.0).work (gives-back is.returned.said left.book.said is.back (is.all_back.0 both.1));
+        whole-work reads writes is.returned.said left.book.said port left.port (is.leaves.0.plays both.0).work (gives-back is.returned.said left.book.said is.back is.all_back.1);
   }
 
   played-at : (first : ℕ) (scripts : List (List Row)) (ports : List P) (lefts : List (Left P PlayerValue K I B S)) (k c : ℕ) (d : LeftValue P) (e : P) → length ports ≡ length scripts → k < length scripts → first + k ≡ c → AreLeft first scripts ports lefts
@@ -205,7 +205,8 @@ run_with reads writes c scripts ports trail lefts d said refused left some ports
       counted = ap length j.collected.ports_are ∙ length-map lefts (λ k. k.port) ∙ are.counted ∙ sym ports_counted;
       each = λ k e below. works-at reads writes scripts ports trail lefts d are agree said left k e is j.collected.ports_are (omega (arith, below, ports_counted));
     } in
-    let log : MarksWithinLog scripts trail said refused = record { follows = followed; some = some; within = within reads writes scripts ports trail lefts d are agree some } in
+    let cut : Follows session (list_of 0 scripts) (reverse (list_of 0 said)) (list_of 0 followed.refusals) = followed.each 0 some in
+    let bound : IsWithinLog (list_of 0 scripts) cut.ends (reverse trail) = within reads writes scripts ports trail lefts d are agree some in
     record {
       legal = legal;
       rules = rules-kept c trail legal;
@@ -213,8 +214,7 @@ run_with reads writes c scripts ports trail lefts d said refused left some ports
       follows = followed;
       known = All-permutation (λ r. r.number ≢ 16) j.one_by_one refused j.same (subst NoneIsStrange (sym j.collected.refused_are) (known-all lefts (known reads writes scripts ports trail lefts d are agree)));
       works = worked;
-      within_log = log;
-      by_rows = marks-by-rows scripts trail said refused log of_each;
+      within_log = record { cut = cut; within = bound; by_rows = marks-by-rows (list_of 0 scripts) trail (list_of 0 said) (list_of 0 followed.refusals) cut (of_each.each 0 some) bound };
     }
 
 run_is : {P : Type 0} (reads : Reads P) (writes : Writes P) (c : Parameters) (scripts : List (List Row)) (ports : List P) (trail : List Entry) (lefts : List (LeftValue P)) (said : List (List Entry)) (refused : List Refused) (left : List P)

@@ -5,7 +5,7 @@ use Rattle.std.proofs.lemmas.List.{reverse-append, append-nil, append_assoc, get
 use Rattle.bp_trail.specs.declared.entries.Entry.{Entry}
 use Rattle.bp_trail.specs.Trail.{Trail}
 use Rattle.bp_trail.specs.Clients.{of_client}
-use Rattle.bp_trail.proofs.Comparing.{of_client-append}
+use Rattle.bp_trail.proofs.OfClient.{of_client-append}
 use Rattle.bp_replay.specs.ScriptRuns.{after_lists, joined_lists, PiecesAreTheirs, SaidIsTheirs}
 
 after_before : (before : Trail) (pieces : List (List Entry)) → after_lists before pieces ≡ reverse (joined_lists pieces) ++ before

@@ -18,16 +18,16 @@ use Rattle.bp_replay.specs.Rows.{DrivesRow, GaveBack, RowCaused, IsLate, CausedR
 use Rattle.bp_replay.specs.Rows.CausedRows.{none, accepted, refused}
 use Rattle.bp_replay.proofs.ScriptSteps.{rows-none, rows-step, two-pieces}
 
-pub fix-row-caused : (core : CoreView) (page : ℕ) (why : Refusal) → IsCaused 3 (Fix page) why core → RowCaused (step.Fix page) why core
+pub fix-row-caused : (core : CoreView) (page : ℕ) (why : Refusal) → IsCaused (Fix page) why core → RowCaused (step.Fix page) why core
 fix-row-caused core page refusal.TrailFull h = h
 fix-row-caused core page refusal.OutOfMemory h = h
-fix-row-caused core page refusal.ClockFull h = tt
+fix-row-caused core page refusal.ClockFull h = absurd h
 fix-row-caused core page _ h = tt
 
-pub flush-row-caused : (core : CoreView) (page : ℕ) (why : Refusal) → IsCaused 2 (Flush page) why core → RowCaused (step.Flush page) why core
+pub flush-row-caused : (core : CoreView) (page : ℕ) (why : Refusal) → IsCaused (Flush page) why core → RowCaused (step.Flush page) why core
 flush-row-caused core page refusal.TrailFull h = h
 flush-row-caused core page refusal.OutOfMemory h = h
-flush-row-caused core page refusal.ClockFull h = tt
+flush-row-caused core page refusal.ClockFull h = absurd h
 flush-row-caused core page _ h = tt
 
 pub discard-row-caused : (old new : CoreView) (client page : ℕ) (why : Refusal) → DiscardOutcome old client page (Err why) new → RowCaused (step.Discard page) why new

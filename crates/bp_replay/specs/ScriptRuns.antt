@@ -39,23 +39,22 @@ pub record EachFollows (scripts : List (List Row)) (said : List (List Entry))
   pub joined : IsPermutation (flat_map (λ r. r) refusals) refused
   pub in_order : IsNonDecreasingBy (λ r. r.row) refused
 
--- by one cut of client 0's list, by which it follows its script with the refused rows that the run
--- has, no mark comes before the log rows allow it
-pub record MarksWithinLog (scripts : List (List Row)) (trail : List Entry)
-    (said : List (List Entry)) (refused : List Refused) : Type 0 where
-  pub follows : EachFollows scripts said refused
-  pub some : 0 < length scripts
-  pub within : IsWithinLog (list_of 0 scripts) (follows.each 0 some).ends (reverse trail)
-
--- each entry of client 0 that is no unfix stands in the piece of a row, by that cut, and the
--- greatest LSN marked up to and with it is at most the greatest of the log rows before that row
-abbrev pub MarksByRows : (scripts : List (List Row)) (trail : List Entry) (said : List (List Entry))
-    (refused : List Refused) → MarksWithinLog scripts trail said refused → Type 0
-MarksByRows scripts trail said refused log =
+-- each entry of client 0 that is no unfix stands in the piece of a row, by this cut of the client's
+-- list, and the greatest LSN marked up to and with it is at most the greatest of the log rows before
+-- that row
+abbrev pub MarksByRows : (script : List Row) (trail said : List Entry) (refusals : List Refused)
+    → Follows session script (reverse said) refusals → Type 0
+MarksByRows script trail said refusals cut =
     (newer past : Trail) (e : Entry) → reverse trail ≡ newer ++ e ∷ past → e.client ≡ 0
-    → is_unfix e.call ≡ false
-    → BoundedByItsRow session (list_of 0 scripts) (reverse (list_of 0 said))
-    (list_of 0 log.follows.refusals) (log.follows.each 0 log.some) past e
+    → is_unfix e.call ≡ false → BoundedByItsRow session script (reverse said) refusals cut past e
+
+-- there is a cut of client 0's list, by which it follows its script with these refused rows, and by
+-- which no mark comes before the log rows allow it
+pub record MarksWithinLog (script : List Row) (trail said : List Entry) (refusals : List Refused)
+    : Type 0 where
+  pub cut : Follows session script (reverse said) refusals
+  pub within : IsWithinLog script cut.ends (reverse trail)
+  pub by_rows : MarksByRows script trail said refusals cut
 
 -- each client's port did the work that its list tells, in that order, and nothing else: this led
 -- from the port that was given to the port that is left
@@ -78,8 +77,8 @@ pub record IsRun {P : Type 0} (reads : Reads P) (writes : Writes P) (c : Paramet
   pub follows : EachFollows scripts said refused
   pub known : NoneIsStrange refused
   pub works : PortsWork reads writes said ports left
-  pub within_log : MarksWithinLog scripts trail said refused
-  pub by_rows : MarksByRows scripts trail said refused within_log
+  pub within_log : MarksWithinLog (list_of 0 scripts) trail (list_of 0 said)
+      (list_of 0 follows.refusals)
 
 -- what the clients left, with the refused rows of all put in the order of their numbers
 pub record Joined {P : Type 0} (trail : List Entry) (lefts : List (LeftValue P))

@@ -1,13 +1,17 @@
 //! Laws of every run, which hold since its trail is legal. Each function does nothing: its contract is the law.
-ghost use Rattle.std.specs.Prelude.{◌≡◌, ℕ, List, [], map, length, reverse};
+ghost use Rattle.std.specs.Prelude.{◌≡◌, ◌<◌, ℕ, List, [], map, length, reverse};
 ghost use Rattle.bp_trail.specs.declared.entries.Entry.{Entry as AnEntry};
 ghost use Rattle.bp_scripts.specs.declared.rows.Row.{Row as ARow};
 ghost use Rattle.bp_scripts.specs.declared.rows.Refused.{Refused as ARefused};
 ghost use Rattle.bp_trail.specs.Parameters.{Parameters};
 ghost use Rattle.bp_trail.specs.Legal.{Legal};
-ghost use Rattle.bp_replay.specs.Scripts.{NoneIsStrange};
+ghost use Rattle.bp_trail.specs.Clients.{of_client};
+ghost use Rattle.bp_trail.specs.Pieces.Manner.{session};
+ghost use Rattle.bp_scripts.specs.Script.{Follows};
+ghost use Rattle.bp_scripts.specs.LogBound.{IsWithinLog};
+ghost use Rattle.bp_replay.specs.Scripts.{list_of, NoneIsStrange};
 ghost use Rattle.bp_replay.specs.Rules.{KeepsRules};
-ghost use Rattle.bp_replay.specs.ScriptRuns.{MarksByRows, MarksWithinLog, SaidIsTheirs, IsRun};
+ghost use Rattle.bp_replay.specs.ScriptRuns.{EachFollows, MarksByRows, SaidIsTheirs, IsRun};
 ghost use Rattle.bp_replay.specs.ScriptRuns.{after_lists, joined_lists, PiecesAreTheirs, PortsWork};
 
 use bp_ports::Port;
@@ -23,14 +27,15 @@ pub fn runs_keep_the_rules_of_the_pool()
         Legal c (reverse trail) → KeepsRules c trail }
 {}
 
-/// Where each client's list is the trail's entries of it and no mark is ahead of the log rows, each
-/// entry of client 0 that is no unfix stands in the piece of a row, by the one cut by which client
-/// 0's list follows its script; and the greatest LSN marked up to and with that entry is at most
-/// the greatest of the log rows before that row.
+/// Where a list is the trail's entries of client 0, and by a cut of it into the pieces of a script's
+/// rows no mark is ahead of the log rows, each entry of client 0 that is no unfix stands in the piece
+/// of a row by that cut; and the greatest LSN marked up to and with that entry is at most the
+/// greatest of the log rows before that row.
 pub fn marks_keep_to_the_log_rows()
-    ensures { (scripts : List (List ARow)) (trail : List AnEntry) (said : List (List AnEntry))
-        (refused : List ARefused) (log : MarksWithinLog scripts trail said refused) →
-        SaidIsTheirs (length scripts) trail said → MarksByRows scripts trail said refused log }
+    ensures { (script : List ARow) (trail said : List AnEntry) (refusals : List ARefused)
+        (cut : Follows session script (reverse said) refusals) → said ≡ of_client 0 trail →
+        IsWithinLog script cut.ends (reverse trail) →
+        MarksByRows script trail said refusals cut }
 {}
 
 /// A trail that is taken in pieces, and lists that are cut in pieces, are a run's when they are
@@ -45,11 +50,14 @@ pub fn pieces_are_a_run<P: Port>()
         Legal c (after_lists [] pieces) → Legal c (reverse (joined_lists pieces)) }
     ensures run { (c : Parameters) (scripts : List (List ARow)) (ports left : List P)
         (trail : List (List AnEntry)) (said : List (List (List AnEntry)))
-        (refused : List ARefused) →
+        (refused : List ARefused) → 0 < length scripts →
         Legal c (after_lists [] trail) → PiecesAreTheirs (length scripts) trail said →
         NoneIsStrange refused →
         PortsWork P.read_gives P.write_gives (map joined_lists said) ports left →
-        MarksWithinLog scripts (joined_lists trail) (map joined_lists said) refused →
+        (follows : EachFollows scripts (map joined_lists said) refused) →
+        (cut : Follows session (list_of 0 scripts) (reverse (list_of 0 (map joined_lists said)))
+        (list_of 0 follows.refusals)) →
+        IsWithinLog (list_of 0 scripts) cut.ends (reverse (joined_lists trail)) →
         IsRun P.read_gives P.write_gives c scripts ports (joined_lists trail)
         (map joined_lists said) refused left }
     ensures theirs { (clients : ℕ) (trail : List (List AnEntry))

@@ -14,7 +14,7 @@ use Rattle.bp_scripts.specs.Script.GivesBack.{none_held, next}
 use Rattle.bp_trail.specs.Clients.{of_client}
 use Rattle.bp_scripts.specs.LogBound.{row_at, is_unfix, EntryWithinLog, IsWithinLog}
 use Rattle.bp_scripts.specs.InPieces.{StandsIn, InPieceOf, BoundedByItsRow}
-use Rattle.bp_trail.proofs.Comparing.{of_client-append, of_client-hit}
+use Rattle.bp_trail.proofs.OfClient.{of_client-append, of_client-hit}
 use Rattle.bp_trail.proofs.Since.{each_before}
 
 -- an end past the place counts nothing, and one at or before it counts one more where all before it did

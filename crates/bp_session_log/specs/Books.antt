@@ -13,6 +13,7 @@ use Rattle.bp_trail.specs.HeldPasses.{held_passes}
 use Rattle.bp_trail.specs.Passes.{passes_out}
 use Rattle.bp_trail.specs.Legal.{is_out}
 use Rattle.bp_trail.specs.Trail.{Trail}
+use Rattle.bp_trail.specs.Clock.{durable}
 use Rattle.bp_trail.specs.Pieces.{by}
 use Rattle.bp_core.specs.CoreView.{CoreView, with_entry}
 
@@ -148,3 +149,18 @@ abbrev pub Alike : CoreView → Trail → CoreView → Trail → Type 0
 Alike old said new after =
     ((new ≡ old) × (after ≡ said))
     ⊎ ((e : Entry) × (new ≡ with_entry old e.client e.call e.reply) × (after ≡ e ∷ said))
+
+-- the core and its client's book got the same entry, or neither got one; no pass went back, and all
+-- else stays but the room
+pub record AddsAlike (core : CoreView) (book : BookValue) (left : CoreView) (kept : BookValue)
+    : Type 0 where
+  pub parameters : left.parameters ≡ core.parameters
+  pub before : left.before ≡ core.before
+  pub owner : SameOwner book kept
+  pub alike : Alike core book.said left kept.said
+
+-- and no more of the log is durable by it
+pub record KeepsBook (core : CoreView) (book : BookValue) (left : CoreView) (kept : BookValue)
+    : Type 0 where
+  pub adds : AddsAlike core book left kept
+  pub durable_stays : durable left.past ≡ durable core.past

@@ -19,7 +19,7 @@ use Rattle.bp_trail.proofs.Lists.{some-filter, count-none}
 use Rattle.bp_trail.proofs.Serials.{OneSerial, has_serial, numbered, out-serial, same-grant-is}
 use Rattle.bp_trail.proofs.Places.{out-of_page}
 use Rattle.bp_trail.specs.Clients.{of_client}
-use Rattle.bp_trail.proofs.Comparing.{of_client-hit, of_client-miss}
+use Rattle.bp_trail.proofs.OfClient.{of_client-hit, of_client-miss}
 use Rattle.bp_session_log.specs.Books.{pass_unfixed, unfixes}
 use Rattle.bp_shared.specs.Telling.{is_told, told, IsToldBy}
 use Rattle.bp_shared.specs.Posting.{unfixed, held_by, IsUnfixedBy}

@@ -18,7 +18,7 @@ use Rattle.bp_trail.specs.Passes.{pass_of, read_ticket_of, write_ticket_of, pass
 use Rattle.bp_trail.specs.Pieces.{by}
 use Rattle.bp_trail.specs.Legal.{is_out, Legal}
 use Rattle.bp_trail.specs.Clients.{of_client}
-use Rattle.bp_trail.proofs.Comparing.{of_client-hit, of_client-miss}
+use Rattle.bp_trail.proofs.OfClient.{of_client-hit, of_client-miss}
 use Rattle.bp_trail.proofs.Lists.{some-filter}
 use Rattle.bp_trail.proofs.Events.{Event, event-of}
 use Rattle.bp_trail.proofs.Events.Event.{read_good, read_bad, read_wrong, write_bad, write_clean, write_dirty, unfixed}

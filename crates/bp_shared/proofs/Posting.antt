@@ -14,7 +14,7 @@ use Rattle.bp_trail.specs.declared.entries.Entry.{Entry}
 use Rattle.bp_trail.specs.Trail.{Trail}
 use Rattle.bp_trail.specs.HeldPasses.{unfix_of}
 use Rattle.bp_trail.specs.Clients.{of_client}
-use Rattle.bp_trail.proofs.Comparing.{of_client-append, of_client-hit, of_client-miss}
+use Rattle.bp_trail.proofs.OfClient.{of_client-append, of_client-hit, of_client-miss}
 use Rattle.bp_core.specs.CoreView.{CoreView}
 use Rattle.bp_core.specs.Outcomes.{Cuts}
 use Rattle.bp_session_log.specs.Books.{pass_unfixed, unfixes}

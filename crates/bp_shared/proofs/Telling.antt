@@ -24,7 +24,7 @@ use Rattle.bp_core.specs.CoreView.{CoreView}
 use Rattle.bp_core.specs.Outcomes.{Cuts}
 use Rattle.bp_trail.specs.Ends.{ended_reply, discarded_reply}
 use Rattle.bp_trail.specs.Clients.{of_client}
-use Rattle.bp_trail.proofs.Comparing.{of_client-append, of_client-hit, of_client-miss}
+use Rattle.bp_trail.proofs.OfClient.{of_client-append, of_client-hit, of_client-miss}
 use Rattle.bp_session_log.specs.Boards.{Opens, Writes}
 use Rattle.bp_session_log.specs.declared.boards.Board.{Board}
 use Rattle.bp_session_log.specs.declared.boards.Line.{Line}

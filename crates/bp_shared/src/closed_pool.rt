@@ -1,6 +1,7 @@
 //! `ClosedPool`: a pool that is shared no more, at which sessions end before its core is taken out.
 use crate::locked_pool::LockedPool;
 use crate::names::{One, PartNames, PoolName};
+use crate::receipt::Receipt;
 use crate::session::Session;
 use crate::taker::Taker;
 use bp_core::PoolCore;
@@ -72,6 +73,20 @@ impl<N: PoolName, K: ListKeeper> ClosedPool<One<N>, K> {
         self.state.end_session(session)
     }
 
+    /// Ends a receipt. What it saw is the older part of the core's trail: so what was known of that holds of a trail
+    /// which the pool had. It takes no memory.
+    pub fn end_receipt(&mut self, receipt: Receipt<One<N>>)
+        ensures same { self.new ≡ self.old }
+        ensures older { GoesOnFrom receipt self.new.past }
+    {
+        let Receipt {
+            part: _,
+            line,
+            of: _,
+        } = receipt;
+        self.state.end_line(line);
+    }
+
     /// Ends the pool and returns the core, the mark and its reader. It neither waits nor takes memory. The core's trail
     /// goes on from all that the taker was handed, and from what it had when the pool was made.
     pub fn into_core(self, taker: Taker<One<N>>) -> (PoolCore<K>, Mark, Reader)
@@ -86,52 +101,5 @@ impl<N: PoolName, K: ListKeeper> ClosedPool<One<N>, K> {
         let ClosedPool { mark, state } = self;
         let (core, reader) = state.into_parts(taker);
         (core, mark, reader)
-    }
-}
-
-/// What ends one of several pools side by side: its core, its mark and the mark's reader; or, where the taker is
-/// another pool's, both back.
-pub type EndedPart<N, K> = Result<(PoolCore<K>, Mark, Reader), (ClosedPool<N, K>, Taker<N>)>;
-
-impl<N: PartNames, K: ListKeeper> ClosedPool<N, K> {
-    ghost use Rattle.std.specs.Prelude.{◌≡◌, ◌≤◌, IfOk, IfErr};
-    ghost use Rattle.bp_trail.specs.Clock.{durable};
-    ghost use Rattle.bp_shared.specs.Posting.{TakesBack};
-    ghost use Rattle.bp_shared.specs.Telling.{GoesOnFrom, IsListOf};
-
-    /// Ends a session of one of several pools side by side, as `end_session` does, where this is its pool. A session of
-    /// another is handed back, and nothing changes.
-    pub fn end_part_session(&mut self, session: Session<N, K>) -> Result<Book<K>, Session<N, K>>
-        ensures takes { IfOk result (λ book. TakesBack session.client self.old self.new) }
-        ensures client { IfOk result (λ book. book.client ≡ session.client) }
-        ensures before { IfOk result (λ book. book.before ≡ session.before) }
-        ensures said { IfOk result (λ book. book.said ≡ session.said) }
-        ensures seen { IfOk result (λ book. GoesOnFrom session.seen self.new.past) }
-        ensures theirs { IfOk result (λ book.
-            IsListOf N.past self.new.past session.client session.said) }
-        ensures other { IfErr result (λ back. (back ≡ session) × (self.new ≡ self.old)) }
-    {
-        if session.part() != self.state.part() {
-            return Err(session);
-        }
-        Ok(self.state.end_session(session))
-    }
-
-    /// Ends one of several pools side by side, as `into_core` does, where the taker is its own. Else both come back.
-    pub fn into_part_core(self, taker: Taker<N>) -> EndedPart<N, K>
-        ensures core { IfOk result (λ out. out.0 ≡ self) }
-        ensures goes_on { IfOk result (λ out. GoesOnFrom N.past out.0.past) }
-        ensures before { IfOk result (λ out. out.0.before ≡ taker.past) }
-        ensures reader { IfOk result (λ out. out.2.mark ≡ out.1) }
-        ensures parameters { IfOk result (λ out. out.0.parameters ≡ N.parameters) }
-        ensures seen { IfOk result (λ out. durable out.0.past ≤ out.2.seen) }
-        ensures other { IfErr result (λ back. (back.0 ≡ self) × (back.1 ≡ taker)) }
-    {
-        if taker.part != self.state.part() {
-            return Err((self, taker));
-        }
-        let ClosedPool { mark, state } = self;
-        let (core, reader) = state.into_parts(taker);
-        Ok((core, mark, reader))
     }
 }

@@ -9,6 +9,7 @@
 //! the session's list: all of it, each unfix in its place. So they are when a session ends at a [`ClosedPool`].
 #![tactic(auto)]
 
+pub mod closed_part;
 pub mod closed_pool;
 pub mod laws;
 mod locked_pool;
@@ -24,6 +25,7 @@ mod trail_ring;
 
 use bp_keeper::{RecordingKeeper, SilentKeeper};
 pub use bp_trail::{Discarded, Flushed};
+pub use closed_part::ClosedPart;
 pub use log_writer::LogWriter;
 pub use names::{One, PartNames, PoolName};
 pub use parts::Parts;

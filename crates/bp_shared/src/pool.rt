@@ -8,6 +8,7 @@ ghost use Rattle.bp_shared.specs.Sessions.{new_sessions_of};
 ghost use Rattle.bp_shared.specs.Taking.{IsEmptied};
 ghost use Rattle.bp_shared.specs.Telling.{IsBlank};
 
+use crate::closed_part::ClosedPart;
 use crate::closed_pool::ClosedPool;
 use crate::locked_pool::LockedPool;
 use crate::locking::locked;
@@ -143,7 +144,8 @@ fn open<N: PartNames, K: ListKeeper>(
 ///
 /// Each client's list has the keeper of the core's trail, which is in memory where nothing else is said.
 ///
-/// A call takes a session of this pool, and a page and a port of the core's geometry.
+/// A call takes a session of this pool, and a page and a port of the core's geometry. With a session of a pool that
+/// stands beside this one it waits for ever, and holds up nobody.
 #[derive(Drop)]
 pub struct SharedPool<N: PartNames, K: ListKeeper = RecordingKeeper> {
     alloc: Global,
@@ -203,6 +205,7 @@ impl<N: PoolName, K: ListKeeper> SharedPool<One<N>, K> {
         requires past { core.past ≡ N.past }
         requires ring { ring ≡ N.ring }
         requires seen { durable core.past ≤ reader.seen }
+        ensures part { IfOk result (λ made. made.0 ≡ 0) }
         ensures taker { IfOk result (λ made. made.2.past ≡ N.before) }
         ensures pieces { IfOk result (λ made. made.2.pieces ≡ 0) }
         ensures sessions { IfOk result (λ made.
@@ -410,6 +413,7 @@ impl<N: PartNames, K: ListKeeper> SharedPool<N, K> {
         ensures same { mutex_guard_value result ≡ mutex_guard_value state.entry }
     {
         if state.part() != self.part || part != self.part {
+            drop(state);
             for _ in rt.forever() {}
             unreachable!()
         }
@@ -434,7 +438,9 @@ impl<N: PartNames, K: ListKeeper> SharedPool<N, K> {
 
     /// Ends the sharing of one of several pools side by side, as `close` does of one that stands alone. What is behind
     /// the lock has the pool's number; where it had another, this would wait for ever.
-    pub fn close_part<R: Wait>(self, rt: &R) -> ClosedPool<N, K> {
+    pub fn close_part<R: Wait>(self, rt: &R) -> ClosedPart<N, K>
+        ensures { result.part ≡ self }
+    {
         let SharedPool {
             alloc: _,
             part,
@@ -450,6 +456,6 @@ impl<N: PartNames, K: ListKeeper> SharedPool<N, K> {
             unreachable!()
         }
         state.drain(ALL);
-        ClosedPool::new(mark, state)
+        ClosedPart::new(mark, state)
     }
 }

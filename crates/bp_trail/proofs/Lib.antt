@@ -31,7 +31,7 @@ pub mod Cuts
 pub mod SecondFix
 pub mod Rows
 pub mod DiscardExamples
-pub mod Comparing
+pub mod OfClient
 pub mod Replies
 pub mod Bytes
 pub mod Recovered

@@ -220,7 +220,7 @@ left_by p geometry_of core Leaves client given old new left is ran leaves same k
       client_is = leaves.client ∙ ran.client;
       held = leaves.held ∙ ran.held;
       back = subst (GoBack ran.returned.said) (sym leaves.said) ran.back;
-      all_back = (λ yes. ap held_passes leaves.said ∙ ran.all_back.0 (sym leaves.all_back ∙ yes), λ none. leaves.all_back ∙ ran.all_back.1 (sym (ap held_passes leaves.said) ∙ none));
+      all_back = (leaves.all_back ∙ ran.all_back.0, ap held_passes leaves.said ∙ ran.all_back.1);
       cut = leaves.before ∙ ran.before;
       saw = subst (λ l. GoesOnFrom l core.past) ran.seen leaves.saw;
       theirs = subst (λ c. of_client c core.past ≡ left.book.said) whose (listed_whole core.past left.book.client left.book.said leaves.theirs);

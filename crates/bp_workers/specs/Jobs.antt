@@ -1,5 +1,5 @@
 -- What one worker's thread is given, and what it leaves.
-use Rattle.std.specs.Prelude.{◌≡◌, ◌↔◌, ℕ, suc, Bool, true, List, [], ◌∷◌, length, Option, None, is_some}
+use Rattle.std.specs.Prelude.{◌≡◌, ℕ, suc, Bool, true, List, [], ◌∷◌, length, Option, None, is_some}
 use Rattle.bp_page.specs.declared.limits.Geometry.{Geometry}
 use Rattle.bp_trail.specs.Parameters.{Parameters}
 use Rattle.bp_trail.specs.HeldPasses.{held_passes}
@@ -39,7 +39,7 @@ pub record Ran {W P : Type 0} (Leaves : Leaving W P) (old new : JobValue W P) : 
   pub seen : new.session.seen ≡ returned.seen
   pub held : new.held ≡ length (held_passes returned.said)
   pub back : GoBack returned.said new.session.said
-  pub all_back : (new.all_went_back ≡ true) ↔ (held_passes new.session.said ≡ [])
+  pub all_back : (new.all_went_back ≡ true) × (held_passes new.session.said ≡ [])
   pub upkeep : is_some new.upkeep ≡ is_some old.upkeep
 
 -- what it leaves: the worker, its port, which is one to the pool's pages, and the session's own

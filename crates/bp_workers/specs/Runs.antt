@@ -1,5 +1,5 @@
 -- What holds after a run of workers.
-use Rattle.std.specs.Prelude.{◌≡◌, ◌↔◌, ℕ, ◌≤◌, zero, suc, true, All, List, [], length, Option, Some, None, Result, Ok, Err}
+use Rattle.std.specs.Prelude.{◌≡◌, ℕ, ◌≤◌, zero, suc, true, All, List, [], length, Option, Some, None, Result, Ok, Err}
 use Rattle.bp_page.specs.declared.limits.Geometry.{Geometry}
 use Rattle.bp_page.specs.declared.refusals.Refusal.{Refusal}
 use Rattle.bp_page.specs.declared.refusals.Refusal.TheVariants as refusal
@@ -67,7 +67,7 @@ pub record LeftBy {P W K I B S : Type 0} (core : CoreView) (geometry_of : P → 
   pub client_is : left.book.client ≡ returned.client
   pub held : left.held ≡ length (held_passes returned.said)
   pub back : GoBack returned.said left.book.said
-  pub all_back : (left.all_went_back ≡ true) ↔ (held_passes left.book.said ≡ [])
+  pub all_back : (left.all_went_back ≡ true) × (held_passes left.book.said ≡ [])
   pub cut : left.book.before ≡ returned.before
   pub saw : GoesOnFrom returned.seen core.past
   pub theirs : of_client client core.past ≡ left.book.said

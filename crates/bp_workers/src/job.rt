@@ -79,7 +79,8 @@ impl<N: PoolName, P: Port, K: ListKeeper, W: Drop> Job<N, P, K, W> {
             None => self.worker.work(rt, pool, &mut self.client, shared),
         }
         self.held = self.client.session.held_count();
-        self.all_went_back = unfix_all(rt, pool, &mut self.client.session);
+        unfix_all(rt, pool, &mut self.client.session);
+        self.all_went_back = true;
     }
 
     /// Ends the job's session at its pool, and returns what the job left, and its upkeep. Passes that still wait in the

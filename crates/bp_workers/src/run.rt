@@ -3,12 +3,12 @@ ghost use Rattle.std.specs.Prelude.{◌≡◌, ◌<◌, ◌≤◌, ◌↔◌, �
 ghost use Rattle.std.specs.Prelude.{All, zip, vec_len, vec_capacity, slice_index_or};
 ghost use Rattle.bp_page.specs.declared.refusals.Refusal.TheVariants as Refusal;
 ghost use Rattle.bp_trail.specs.Legal.{Legal};
-ghost use Rattle.bp_trail.specs.Trail.{Trail};
 ghost use Rattle.bp_core.specs.Agreement.{parameters_with};
 ghost use Rattle.bp_shared.specs.Sessions.{new_sessions};
 ghost use Rattle.bp_workers.specs.Workers.{upkeep_value, unused_upkeep};
 ghost use Rattle.bp_workers.specs.Jobs.{IsReady, Ran, IsLeftOf, IsOfPool, AreNumbered, first_upkeep};
 ghost use Rattle.bp_workers.specs.Lists.{SideBySide};
+ghost use Rattle.bp_workers.specs.Sharing.{AgreesSoFar};
 ghost use Rattle.bp_workers.specs.Runs.{FitTogether, CanRun, CanRunUpTo, RunAnswers, LeftBy, IsNewJob};
 
 use crate::job::Job;
@@ -151,7 +151,7 @@ fn run_pool<
     ensures parameters { IfOk result (λ ran. ran.0.core.parameters ≡ N.parameters) }
     ensures left { (given : _) → SideBySide IsNewJob 0 given jobs.items → IfOk result (λ ran.
         SideBySide (LeftBy ran.0.core P.geometry_of W.leaves) 0 given ran.0.left.items) }
-    ensures agrees { IfOk result (λ ran. (seen : Trail) × S.agrees ran.1 seen) }
+    ensures agrees { IfOk result (λ ran. AgreesSoFar S.agrees ran.1 ran.0.core.past) }
     ensures refused { OnErr result (result ≡ Err Refusal.OutOfMemory) }
 {
     let Ok(left) = Vec::with_capacity(alloc, jobs.len()) else {
@@ -164,9 +164,10 @@ fn run_pool<
     let receipt = pool.receipt(rt);
     let shared = Mutex::new(WithReceipt { state, receipt });
     run_jobs(rt, &pool, &shared, jobs.as_mut_slice());
-    let WithReceipt { state, receipt: _ } = shared.into_inner();
+    let WithReceipt { state, receipt } = shared.into_inner();
     let mut pool = pool.close();
     let (upkeep, left) = all_left(&mut pool, jobs, left);
+    pool.end_receipt(receipt);
     let Upkeep { log, taker } = upkeep;
     let (core, mark, reader) = pool.into_core(taker);
     // The mark's last word bounds what its reader has seen, and so the LSNs that the core has marked.
@@ -207,7 +208,7 @@ fn run_named<
     ensures left { IfOk result (λ ran.
         SideBySide (LeftBy ran.0.core P.geometry_of W.leaves) 0
         (zip workers.items ports.items) ran.0.left.items) }
-    ensures agrees { IfOk result (λ ran. (seen : Trail) × S.agrees ran.1 seen) }
+    ensures agrees { IfOk result (λ ran. AgreesSoFar S.agrees ran.1 ran.0.core.past) }
     ensures refused { OnErr result (result ≡ Err Refusal.OutOfMemory) }
 {
     let Parts {
@@ -267,7 +268,7 @@ fn fit_together<P: Port>(config: &Config, ports: &[P], workers: usize) -> bool
 /// It takes 1 to 64 workers, and as many ports on devices of the configuration's geometry. At `Ok` each worker did its
 /// work, and at its place stand the worker, its own port, and the book of its client's session. The core's entries,
 /// those that were cut and its trail, are one legal history, in which no mark is above what client 0 raised it to. The
-/// state comes back, and agrees with some trail still.
+/// state comes back, and agrees with what its receipt had seen of that history, which is the older part of it.
 ///
 /// `BadSettings` where the workers are not 1 to 64, the ports are not as many or one is of another geometry, the frames
 /// are not 1 to 65,536 or the room not 1 to its keeper's most, which is 16,777,216 entries in memory, or a count of
@@ -295,7 +296,7 @@ pub fn run_sharing_workers<
     ensures left { IfOk result (λ ran.
         SideBySide (LeftBy ran.0.core P.geometry_of W.leaves) 0
         (zip workers.items ports.items) ran.0.left.items) }
-    ensures agrees { IfOk result (λ ran. (seen : Trail) × S.agrees ran.1 seen) }
+    ensures agrees { IfOk result (λ ran. AgreesSoFar S.agrees ran.1 ran.0.core.past) }
     ensures answers { RunAnswers (CanRunUpTo K.MOST_ROOM P.geometry_of config ports.items
         (vec_len workers)) result }
 {

@@ -2,25 +2,23 @@
 //!
 //!     example_recovery create PAGES SIZE LOG
 //!     example_recovery show PAGES SIZE LOG
-//!     example_recovery work PAGES SIZE LOG FRAMES LIVES COMMITS CHANGES EVERY SEED IMAGES
+//!     example_recovery work PAGES SIZE LOG FRAMES LIVES COMMITS CHANGES EVERY SEED
 //!
 //! The files are in the folder in which it runs: PAGES pages of SIZE bytes, and two logs of LOG bytes. `show` opens the
 //! table, and prints the number of the commit that each row is from. `work` does so LIVES times, and each time commits
 //! until COMMITS are made, and then stops as a process that dies: what was not made durable may be lost. Where the log
 //! is full it makes a checkpoint. A commit has up to CHANGES changes, which come from SEED and its number. Each EVERY
-//! commits are made durable, and acknowledged by a line, and so is a checkpoint. Where IMAGES is 1, the first change of
-//! a page since the log was begun is of the whole page.
+//! commits are made durable, and acknowledged by a line, and so is a checkpoint.
 
-use crate::frames::split_number;
-use crate::log::{LogFault, LogFile};
-use crate::opening::{self, open};
-use crate::table::{Table, TableFault};
 use crate::{LOGS, ROW, log_file, new_log};
 use anyhow::Context;
 use bp_core::Settings;
 use bp_page::{Bytes, Format, Geometry, Lsn, PageNo};
 use bp_ports::{FilePort, Port, create_page_file};
 use bp_trail::LogRecord;
+use example_log::frames::split_number;
+use example_log::{LogFault, LogFile};
+use example_table::{Table, TableFault, create as create_logs, open};
 use std::alloc::Global;
 use std::fs::File;
 use std::rt::{Files, Runtime};
@@ -43,7 +41,6 @@ struct Words {
     changes: u64,
     every: u64,
     seed: u64,
-    is_imaged: bool,
 }
 
 /// The next number of a linear congruential generator.
@@ -58,41 +55,27 @@ fn below(state: u64, limit: u64) -> u64 {
     (state >> 33) % limit.max(1)
 }
 
-/// Makes a change, each row of which is the number of its commit and the seed.
+/// Makes a change of a row, which is the number of its commit and the seed.
 fn change(
     alloc: Global,
-    words: &Words,
     page: u64,
-    row: Option<u64>,
+    row: u64,
     number: u64,
+    seed: u64,
 ) -> Result<LogRecord, anyhow::Error> {
     let mut bytes = Vec::new(alloc);
-    let rows = if row.is_some() {
-        1
-    } else {
-        words.device.size / ROW as usize
-    };
-    for _ in 0..rows {
-        bytes.extend_from_slice(&number.to_le_bytes())?;
-        bytes.extend_from_slice(&words.seed.to_le_bytes())?;
-    }
+    bytes.extend_from_slice(&number.to_le_bytes())?;
+    bytes.extend_from_slice(&seed.to_le_bytes())?;
     Ok(LogRecord {
         page: PageNo::new(page),
-        offset: u32::try_from(row.unwrap_or(0))
-            .unwrap_or(0)
-            .wrapping_mul(ROW),
+        offset: u32::try_from(row).unwrap_or(0).wrapping_mul(ROW),
         bytes: Bytes::of(alloc, &bytes)?,
         lsn: Lsn::new(0),
     })
 }
 
-/// Makes the changes of a commit, and notes the pages of which there was none before.
-fn changes(
-    alloc: Global,
-    words: &Words,
-    number: u64,
-    known: &mut Vec<u64>,
-) -> Result<Vec<LogRecord>, anyhow::Error> {
+/// Makes the changes of a commit.
+fn changes(alloc: Global, words: &Words, number: u64) -> Result<Vec<LogRecord>, anyhow::Error> {
     let mut state = next(words.seed.wrapping_add(next(number)));
     let mut changes = Vec::new(alloc);
     for _ in 0..below(state, words.changes).saturating_add(1) {
@@ -100,12 +83,7 @@ fn changes(
         let page = below(state, words.device.pages);
         state = next(state);
         let row = below(state, words.device.size as u64 / u64::from(ROW));
-        let is_whole = words.is_imaged && !known.contains(&page);
-        let row = if is_whole { None } else { Some(row) };
-        changes.push(change(alloc, words, page, row, number)?)?;
-        if is_whole {
-            known.push(page)?;
-        }
+        changes.push(change(alloc, page, row, number, words.seed)?)?;
     }
     Ok(changes)
 }
@@ -176,9 +154,8 @@ fn commit(
     table: &mut Table<File, FilePort>,
     spare: &mut LogFile<File>,
     number: u64,
-    known: &mut Vec<u64>,
 ) -> Result<(), anyhow::Error> {
-    let made = changes(rt.alloc(), words, number, known)?;
+    let made = changes(rt.alloc(), words, number)?;
     match table.commit(rt, rt.alloc(), &made) {
         Ok(_) => return Ok(()),
         Err(TableFault::Log(LogFault::Full)) => {}
@@ -186,8 +163,6 @@ fn commit(
     }
     table.checkpoint(rt, rt.alloc(), NAME, spare)?;
     println!(rt; "checkpoint {}", number.wrapping_sub(1))?;
-    known.clear();
-    let made = changes(rt.alloc(), words, number, known)?;
     table.commit(rt, rt.alloc(), &made)?;
     Ok(())
 }
@@ -200,11 +175,10 @@ fn commit_all(
     spare: &mut LogFile<File>,
     last: u64,
 ) -> Result<(), anyhow::Error> {
-    let mut known = Vec::new(rt.alloc());
     let mut number = last;
     for _ in 0..words.commits {
         number = number.wrapping_add(1);
-        commit(rt, words, table, spare, number, &mut known)?;
+        commit(rt, words, table, spare, number)?;
         if number % words.every.max(1) == 0 {
             table.make_durable()?;
             println!(rt; "durable {number}")?;
@@ -241,7 +215,7 @@ fn create(
         new_log(rt, LOGS[0], words.log)?,
         new_log(rt, LOGS[1], words.log)?,
     );
-    opening::create(rt.alloc(), NAME, &words.device, &mut one, &mut two)?;
+    create_logs(rt.alloc(), NAME, &words.device, &mut one, &mut two)?;
     Ok(())
 }
 
@@ -251,7 +225,7 @@ fn words_of(alloc: Global, given: &[String]) -> Result<Words, anyhow::Error> {
     for word in given {
         numbers.push(word.parse::<u64>()?)?;
     }
-    for _ in numbers.len()..10 {
+    for _ in numbers.len()..9 {
         numbers.push(0)?;
     }
     match numbers.as_slice() {
@@ -265,7 +239,6 @@ fn words_of(alloc: Global, given: &[String]) -> Result<Words, anyhow::Error> {
             changes,
             every,
             seed,
-            images,
         ] => Ok(Words {
             device: Geometry::new(*pages, *size as usize)?,
             log: *log as usize,
@@ -275,7 +248,6 @@ fn words_of(alloc: Global, given: &[String]) -> Result<Words, anyhow::Error> {
             changes: *changes,
             every: *every,
             seed: *seed,
-            is_imaged: *images == 1,
         }),
         _ => None.context("too many words"),
     }

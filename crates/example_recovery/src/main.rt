@@ -4,25 +4,18 @@
 #![tactic(auto)]
 
 mod driven;
-mod frames;
-mod log;
-mod opening;
-mod reading;
-mod redo;
-mod table;
 
 use bp_core::Settings;
 use bp_page::{Bytes, Geometry, Image, Lsn, PageNo, Refusal};
 use bp_ports::{MemDevice, MemPort, Port};
 use bp_trail::LogRecord;
-use log::LogFile;
-use opening::{create, open};
+use example_log::LogFile;
+use example_table::{Table, create, open};
 use std::alloc::Global;
 use std::env;
 use std::fs::{self, File, OpenFile};
 use std::rt::{Files, Runtime};
 use std::sync::Wait;
-use table::Table;
 
 const ROW: u32 = 16;
 

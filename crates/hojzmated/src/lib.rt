@@ -15,7 +15,7 @@ pub use bp_core::{
     Settings, SilentCore, Stats, WriteTicket,
 };
 pub use bp_keeper::{Keeper, ListKeeper, RecordingKeeper, SilentKeeper};
-pub use bp_trail::{Call, Discarded, Entry, Flushed, Grant, Reply, Totals, agrees};
+pub use bp_trail::{Call, Discarded, Entry, Flushed, Grant, Reply, Totals};
 
 // Records of a log, and redo of them after a crash.
 pub use bp_trail::{LogRecord, redo_page, redo_record};

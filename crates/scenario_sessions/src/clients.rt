@@ -3,11 +3,11 @@ ghost use Rattle.std.specs.Prelude.{◌≡◌};
 
 use crate::kinds::Kind;
 use crate::making::Noting;
+use bp_check::agrees;
 use bp_core::{Call, Entry, Pass, Reply};
 use bp_device::Port;
 use bp_page::{Geometry, Lsn, Refusal};
 use bp_shared::{PoolName, Session, SharedPool};
-use bp_trail::agrees;
 use scenario_cores::{
     Lists, bytes_read, content, discarded, done, flushed, flushed_all, forgot, grant_of,
     lsn_or_none, page_or_none, pass_of, span_of, stats_of, went,

@@ -45,7 +45,7 @@ const PAGES: u64 = 96;
 const ROOM: usize = 4096;
 
 /// The seconds of a run, where no argument says them.
-const SECONDS: u64 = 4;
+const SECONDS: u64 = 10;
 
 /// What a client does.
 #[derive(Drop)]

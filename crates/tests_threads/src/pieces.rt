@@ -1,10 +1,11 @@
 //! Threads that use a pool repeatedly, and cut the trail and their lists as they go.
 ghost use Rattle.std.specs.Prelude.{◌≡◌};
 
+use bp_check::agrees;
 use bp_core::{Core, Entry};
 use bp_device::{MemDevice, MemPort};
 use bp_shared::{PoolName, Session, SharedPool, Taker};
-use bp_trail::{Totals, agrees};
+use bp_trail::Totals;
 use bp_workers::Client;
 use std::alloc::Global;
 use std::marker::Brand;

@@ -1,10 +1,10 @@
 //! Workers that share pages.
 use crate::making::{config, expect_lawful, ports};
 use crate::writer::{DURABLE, Writer, writers};
+use bp_check::agrees;
 use bp_core::{Call, Entry};
 use bp_device::MemPort;
 use bp_page::Lsn;
-use bp_trail::agrees;
 use bp_workers::{Left, Run, run_workers};
 use std::process::Abort;
 use std::rt::HostRuntime;

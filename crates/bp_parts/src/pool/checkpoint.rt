@@ -36,8 +36,9 @@ impl<N: PartNames + PartCount, K: ListKeeper> PartedPool<N, K> {
     ghost use Rattle.bp_parts.specs.Redo.{IsRedoFromAll};
     ghost use Rattle.bp_parts.specs.Flushes.{FlushesAllParts};
 
-    /// Returns the LSN from which redo of the whole file has to begin: the least of all unsaved writes of all parts.
-    /// `None` where each page is saved. Ask before the sync, as `SharedPool::redo_from` says.
+    /// Returns the least LSN of the unsaved writes of all parts, each as it is when it is asked, one after the other:
+    /// `None` where each had none then. Redo of the whole file begins at the lesser of it and the log's end, which is
+    /// noted before the call. Ask before the sync, as `SharedPool::redo_from` says.
     pub fn redo_from<R: Wait>(&self, rt: &R, session: &mut PartedSession<N, K>) -> Option<Lsn>
         ensures sees { InEachPart session.old session.new (Sees N.parameters N.past) }
         ensures least { IsRedoFromAll N.parts session.new.sessions result }

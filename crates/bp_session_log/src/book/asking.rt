@@ -4,7 +4,7 @@ ghost use Rattle.bp_mark.specs.Marks.{ReaderValue};
 ghost use Rattle.bp_trail.specs.declared.entries.Call.TheVariants as Call;
 ghost use Rattle.bp_trail.specs.declared.entries.Reply.TheVariants as Reply;
 ghost use Rattle.bp_trail.specs.Clock.{durable};
-ghost use Rattle.bp_session_log.specs.Books.{SameOwner, Alike};
+ghost use Rattle.bp_session_log.specs.Books.{AddsAlike, KeepsBook};
 ghost use Rattle.bp_session_log.specs.Turns.{LookOutcome, AskFixOutcome, AskFlushOutcome, DiscardTurn};
 ghost use Rattle.bp_session_log.specs.Turns.{passes_taken, places_taken, tickets_taken};
 ghost use Rattle.bp_session_log.specs.Turns.{TickSaid, PurgeSaid, ReadSaid, ReadIntoSaid, WriteSaid};
@@ -36,9 +36,7 @@ impl<K: ListKeeper> Book<K> {
         requires room { 0 < self.old.entries }
         ensures mark { reader.new.mark ≡ reader.old.mark }
         ensures seen { durable core.new.past ≤ reader.new.seen }
-        ensures parameters { core.new.parameters ≡ core.old.parameters }
-        ensures before { core.new.before ≡ core.old.before }
-        ensures owner { SameOwner self.old self.new }
+        ensures adds { AddsAlike core.old self.old core.new self.new }
         ensures entries { self.old.entries ≤ self.new.entries + 1 }
         ensures passes { self.new.passes ≡ self.old.passes }
         ensures places { self.new.places ≡ self.old.places }
@@ -46,7 +44,6 @@ impl<K: ListKeeper> Book<K> {
         ensures looks { Looks self.old.client reader.new.seen core.old result core.new }
         ensures outcome { LookOutcome self.old.client core.old reader.new.seen result
             self.old.said self.new.said }
-        ensures alike { Alike core.old self.old.said core.new self.new.said }
     {
         let seen = reader.look(mark);
         if seen <= core.durable() {
@@ -69,17 +66,13 @@ impl<K: ListKeeper> Book<K> {
         requires entries { 3 ≤ self.old.entries }
         requires passes { 1 ≤ self.old.passes }
         requires copies { 2 ≤ self.old.copies }
-        ensures durable { durable core.new.past ≡ durable core.old.past }
-        ensures parameters { core.new.parameters ≡ core.old.parameters }
-        ensures before { core.new.before ≡ core.old.before }
-        ensures owner { SameOwner self.old self.new }
+        ensures keeps { KeepsBook core.old self.old core.new self.new }
         ensures asked { AsksFix self.old.client page result core.old core.new }
         ensures memory { result ≡ Err Refusal.OutOfMemory
             → TakesMemory (Call.Fix page) core.old }
         ensures outcome { AskFixOutcome self.old.client page result self.old.said self.new.said }
         ensures passes { self.old.passes ≤ self.new.passes + passes_taken result }
         ensures places { self.old.places ≤ self.new.places + places_taken result }
-        ensures alike { Alike core.old self.old.said core.new self.new.said }
     {
         match core.fix(self.client, page) {
             Ok(passes::Fix::Hit(pass)) => {
@@ -113,17 +106,13 @@ impl<K: ListKeeper> Book<K> {
         requires entries { 3 ≤ self.old.entries }
         requires passes { 1 ≤ self.old.passes }
         requires copies { 2 ≤ self.old.copies }
-        ensures durable { durable core.new.past ≡ durable core.old.past }
-        ensures parameters { core.new.parameters ≡ core.old.parameters }
-        ensures before { core.new.before ≡ core.old.before }
-        ensures owner { SameOwner self.old self.new }
+        ensures keeps { KeepsBook core.old self.old core.new self.new }
         ensures asked { AsksFlush self.old.client page result core.old core.new }
         ensures memory { result ≡ Err Refusal.OutOfMemory
             → TakesMemory (Call.Flush page) core.old }
         ensures outcome { AskFlushOutcome self.old.client page result self.old.said self.new.said }
         ensures passes { self.old.passes ≤ self.new.passes + tickets_taken result }
         ensures places { self.old.places ≤ self.new.places + tickets_taken result }
-        ensures alike { Alike core.old self.old.said core.new self.new.said }
     {
         match core.flush(self.client, page) {
             Ok(passes::Flush::Clean) => {
@@ -157,15 +146,11 @@ impl<K: ListKeeper> Book<K> {
         requires client_in { self.old.client < core.old.parameters.clients }
         requires page_in { page < core.old.parameters.pages }
         requires room { 0 < self.old.entries }
-        ensures durable { durable core.new.past ≡ durable core.old.past }
-        ensures parameters { core.new.parameters ≡ core.old.parameters }
-        ensures before { core.new.before ≡ core.old.before }
-        ensures owner { SameOwner self.old self.new }
+        ensures keeps { KeepsBook core.old self.old core.new self.new }
         ensures asked { DiscardOutcome core.old self.old.client page result core.new }
         ensures outcome { DiscardTurn self.old.client page result self.old.said self.new.said }
         ensures passes { self.new.passes ≡ self.old.passes }
         ensures places { self.new.places ≡ self.old.places }
-        ensures alike { Alike core.old self.old.said core.new self.new.said }
     {
         match core.discard(self.client, page) {
             Ok(how) => {
@@ -184,15 +169,11 @@ impl<K: ListKeeper> Book<K> {
     pub fn ask_tick(&mut self, core: &mut PoolCore<K>, n: u64) -> Result<(), Refusal>
         requires client_in { self.old.client < core.old.parameters.clients }
         requires room { 0 < self.old.entries }
-        ensures durable { durable core.new.past ≡ durable core.old.past }
-        ensures parameters { core.new.parameters ≡ core.old.parameters }
-        ensures before { core.new.before ≡ core.old.before }
-        ensures owner { SameOwner self.old self.new }
+        ensures keeps { KeepsBook core.old self.old core.new self.new }
         ensures asked { TickOutcome core.old self.old.client n result core.new }
         ensures outcome { TickSaid self.old.client n result self.old.said self.new.said }
         ensures passes { self.new.passes ≡ self.old.passes }
         ensures places { self.new.places ≡ self.old.places }
-        ensures alike { Alike core.old self.old.said core.new self.new.said }
     {
         core.tick(self.client, n)?;
         self.tell(Call::Tick(n), Reply::Done);
@@ -205,15 +186,11 @@ impl<K: ListKeeper> Book<K> {
     pub fn ask_purge(&mut self, core: &mut PoolCore<K>) -> Result<u64, Refusal>
         requires client_in { self.old.client < core.old.parameters.clients }
         requires room { 0 < self.old.entries }
-        ensures durable { durable core.new.past ≡ durable core.old.past }
-        ensures parameters { core.new.parameters ≡ core.old.parameters }
-        ensures before { core.new.before ≡ core.old.before }
-        ensures owner { SameOwner self.old self.new }
+        ensures keeps { KeepsBook core.old self.old core.new self.new }
         ensures asked { PurgeOutcome core.old self.old.client result core.new }
         ensures outcome { PurgeSaid self.old.client result self.old.said self.new.said }
         ensures passes { self.new.passes ≡ self.old.passes }
         ensures places { self.new.places ≡ self.old.places }
-        ensures alike { Alike core.old self.old.said core.new self.new.said }
     {
         let forgotten = core.purge(self.client)?;
         self.tell(Call::Purge, Reply::Forgot(forgotten));
@@ -229,15 +206,11 @@ impl<K: ListKeeper> Book<K> {
         requires room { 0 < self.old.entries }
         requires copies { 0 < self.old.copies }
         ensures size { IfOk result (λ image. length image ≡ self.old.size) }
-        ensures durable { durable core.new.past ≡ durable core.old.past }
-        ensures parameters { core.new.parameters ≡ core.old.parameters }
-        ensures before { core.new.before ≡ core.old.before }
-        ensures owner { SameOwner self.old self.new }
+        ensures keeps { KeepsBook core.old self.old core.new self.new }
         ensures asked { ReadOutcome core.old pass.now result core.new }
         ensures outcome { ReadSaid self.old.client pass.now result self.old.said self.new.said }
         ensures passes { self.new.passes ≡ self.old.passes }
         ensures places { self.new.places ≡ self.old.places }
-        ensures alike { Alike core.old self.old.said core.new self.new.said }
     {
         let image = core.read(pass)?;
         self.tell_read(pass, &image);
@@ -260,17 +233,13 @@ impl<K: ListKeeper> Book<K> {
         requires fits { offset + length into.old ≤ core.old.parameters.size }
         requires room { 0 < self.old.entries }
         requires copies { 0 < self.old.copies }
-        ensures durable { durable core.new.past ≡ durable core.old.past }
-        ensures parameters { core.new.parameters ≡ core.old.parameters }
-        ensures before { core.new.before ≡ core.old.before }
-        ensures owner { SameOwner self.old self.new }
+        ensures keeps { KeepsBook core.old self.old core.new self.new }
         ensures asked { ReadIntoOutcome core.old pass.now offset into.old result into.new core.new }
         ensures outcome { ReadIntoSaid self.old.client pass.now offset into.old result into.new
             self.old.said self.new.said }
         ensures passes { self.new.passes ≡ self.old.passes }
         ensures places { self.new.places ≡ self.old.places }
         ensures memory { K.REFUSES ≡ false → result ≢ Err Refusal.OutOfMemory }
-        ensures alike { Alike core.old self.old.said core.new self.new.said }
     {
         core.read_into(pass, offset, into)?;
         let image = core.image(pass).unwrap();
@@ -294,17 +263,13 @@ impl<K: ListKeeper> Book<K> {
         requires fits { offset + length bytes.now ≤ core.old.parameters.size }
         requires room { 0 < self.old.entries }
         requires spare { K.serves_bytes spare bytes.now }
-        ensures durable { durable core.new.past ≡ durable core.old.past }
-        ensures parameters { core.new.parameters ≡ core.old.parameters }
-        ensures before { core.new.before ≡ core.old.before }
-        ensures owner { SameOwner self.old self.new }
+        ensures keeps { KeepsBook core.old self.old core.new self.new }
         ensures asked { WriteOutcome core.old pass.now offset bytes.now lsn result core.new }
         ensures outcome { WriteSaid self.old.client pass.now offset bytes.now lsn result
             self.old.said self.new.said }
         ensures passes { self.new.passes ≡ self.old.passes }
         ensures places { self.new.places ≡ self.old.places }
         ensures memory { K.REFUSES ≡ false → result ≢ Err Refusal.OutOfMemory }
-        ensures alike { Alike core.old self.old.said core.new self.new.said }
     {
         core.write_from(pass, offset, bytes, lsn)?;
         self.tell_write(pass, offset, bytes, lsn, spare);

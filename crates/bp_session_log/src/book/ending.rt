@@ -1,7 +1,6 @@
 //! The ends of device work. None of these takes memory.
 ghost use Rattle.std.specs.Prelude.{◌≡◌, ◌≢◌, ◌≤◌, ◌+◌, true, length, IfOk, Ok, Err};
-ghost use Rattle.bp_trail.specs.Clock.{durable};
-ghost use Rattle.bp_session_log.specs.Books.{SameOwner, OwesRead, OwesWrite, Alike};
+ghost use Rattle.bp_session_log.specs.Books.{KeepsBook, OwesRead, OwesWrite};
 ghost use Rattle.bp_session_log.specs.Turns.{EndReadOutcome, EndWriteOutcome};
 ghost use Rattle.bp_session_log.specs.Causes.{EndsRead, EndsWrite};
 
@@ -24,16 +23,12 @@ impl<K: ListKeeper> Book<K> {
         requires owes { OwesRead self.old.client ticket self.old.said }
         requires size { length image ≡ self.old.size }
         requires core_size { core.old.parameters.size ≡ self.old.size }
-        ensures durable { durable core.new.past ≡ durable core.old.past }
-        ensures parameters { core.new.parameters ≡ core.old.parameters }
-        ensures before { core.new.before ≡ core.old.before }
-        ensures owner { SameOwner self.old self.new }
+        ensures keeps { KeepsBook core.old self.old core.new self.new }
         ensures ended { EndsRead core.old ticket (Ok image) result core.new }
         ensures outcome { EndReadOutcome ticket (Ok image) result self.old.said self.new.said }
         ensures passes { self.old.passes ≤ self.new.passes }
         ensures places { result ≢ Err Refusal.UnknownTicket
             → self.old.places + 1 ≤ self.new.places }
-        ensures alike { Alike core.old self.old.said core.new self.new.said }
     {
         let page = ticket.page();
         let serial = ticket.serial();
@@ -71,16 +66,12 @@ impl<K: ListKeeper> Book<K> {
         fault: PortFault,
     ) -> Result<Pass, Refusal>
         requires owes { OwesRead self.old.client ticket self.old.said }
-        ensures durable { durable core.new.past ≡ durable core.old.past }
-        ensures parameters { core.new.parameters ≡ core.old.parameters }
-        ensures before { core.new.before ≡ core.old.before }
-        ensures owner { SameOwner self.old self.new }
+        ensures keeps { KeepsBook core.old self.old core.new self.new }
         ensures ended { EndsRead core.old ticket (Err fault) result core.new }
         ensures outcome { EndReadOutcome ticket (Err fault) result self.old.said self.new.said }
         ensures passes { self.old.passes ≤ self.new.passes }
         ensures places { result ≢ Err Refusal.UnknownTicket
             → self.old.places + 1 ≤ self.new.places }
-        ensures alike { Alike core.old self.old.said core.new self.new.said }
     {
         let page = ticket.page();
         let serial = ticket.serial();
@@ -117,16 +108,12 @@ impl<K: ListKeeper> Book<K> {
         requires owes { OwesRead self.old.client ticket self.old.said }
         requires size { IfOk read (λ image. length image ≡ self.old.size) }
         requires core_size { core.old.parameters.size ≡ self.old.size }
-        ensures durable { durable core.new.past ≡ durable core.old.past }
-        ensures parameters { core.new.parameters ≡ core.old.parameters }
-        ensures before { core.new.before ≡ core.old.before }
-        ensures owner { SameOwner self.old self.new }
+        ensures keeps { KeepsBook core.old self.old core.new self.new }
         ensures ended { EndsRead core.old ticket read result core.new }
         ensures outcome { EndReadOutcome ticket read result self.old.said self.new.said }
         ensures passes { self.old.passes ≤ self.new.passes }
         ensures places { result ≢ Err Refusal.UnknownTicket
             → self.old.places + 1 ≤ self.new.places }
-        ensures alike { Alike core.old self.old.said core.new self.new.said }
     {
         let PendingRead { ticket } = ticket;
         match read {
@@ -147,17 +134,13 @@ impl<K: ListKeeper> Book<K> {
         written: Result<(), PortFault>,
     ) -> Result<Ended, Refusal>
         requires owes { OwesWrite self.old.client ticket self.old.said }
-        ensures durable { durable core.new.past ≡ durable core.old.past }
-        ensures parameters { core.new.parameters ≡ core.old.parameters }
-        ensures before { core.new.before ≡ core.old.before }
-        ensures owner { SameOwner self.old self.new }
+        ensures keeps { KeepsBook core.old self.old core.new self.new }
         ensures ended { EndsWrite core.old ticket written result core.new }
         ensures outcome { EndWriteOutcome ticket written result self.old.said self.new.said }
         ensures passes { result ≢ Err Refusal.UnknownTicket
             → self.old.passes + 1 ≤ self.new.passes }
         ensures places { result ≢ Err Refusal.UnknownTicket
             → self.old.places + 1 ≤ self.new.places }
-        ensures alike { Alike core.old self.old.said core.new self.new.said }
     {
         let PendingWrite { ticket } = ticket;
         let page = ticket.page();

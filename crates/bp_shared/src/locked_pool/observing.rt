@@ -13,7 +13,7 @@ use crate::session::{Past, Session, Told};
 use bp_core::{PoolCore, Stats};
 use bp_keeper::ListKeeper;
 use bp_page::{Lsn, PageNo};
-use bp_session_log::Book;
+use bp_session_log::{Book, Line};
 use std::marker::PhantomData;
 use std::sync::Wait;
 
@@ -65,6 +65,15 @@ impl<N: PartNames, K: ListKeeper> LockedPool<N, K> {
         }
         self.seen
             .write::<PoolCore<K>, Past>(&mut receipt.line, &self.core);
+    }
+
+    /// Ends a line that is no session's: what was seen by it is the older part of the trail.
+    pub(crate) fn end_line(&mut self, mut line: Line)
+        requires own { line.name ≡ (N.ring self.old.part).seen }
+        ensures core { self.new ≡ self.old }
+        ensures older { GoesOnFrom line.list self.new.core.past }
+    {
+        self.seen.write::<PoolCore<K>, Past>(&mut line, &self.core);
     }
 
     /// Returns the first unsaved page from this number on.

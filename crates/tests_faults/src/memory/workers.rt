@@ -3,12 +3,12 @@ ghost use Rattle.std.specs.Prelude.{◌≡◌};
 
 use crate::memory::devices::{device, port_of};
 use crate::memory::telling::all_went_back;
+use bp_check::agrees;
 use bp_core::{PassNote, RecordingKeeper, Settings, SilentKeeper};
 use bp_device::{MemPort, Port};
 use bp_keeper::ListKeeper;
 use bp_page::{Geometry, Refusal};
 use bp_shared::{PoolName, SharedPool};
-use bp_trail::agrees;
 use bp_workers::{Client, Config, Kind, Run, Upkeep, Worker, run_workers_over};
 use std::alloc::Global;
 use std::marker::Sync;

@@ -10,7 +10,7 @@ loop-line-preserved c =
     let i = c.loop-line.line-index in
     let lines = c.args.lines.now in
     let line = c.line-item.result in
-    let start : Span = record { least = 2 ^ 64 - 1; greatest = 1 } in
+    let start : Span = record { least = 2 ^ 64 - 1; greatest = 1; lowest = 9; highest = 0 } in
     let more = fold_more and_line start lines i line c.loop-line-test.true in
     let grown = ap (λ (s : Span). and_line s (get_or lines i line)) c.loop-line.invariant in
     let here = ap (λ (l : Curve). and_line c.loop-line.span l) c.line-item.is in

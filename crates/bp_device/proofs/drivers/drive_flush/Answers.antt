@@ -57,10 +57,10 @@ returns-in_err-flush-clause-work g c = refused-flush-work _ _ c.args.core.now c.
 
 pub returns-in_err-ended-in-WriteFirst-clause-cause : goal.returns-in_err-ended-in-WriteFirst-clause-cause
 returns-in_err-ended-in-WriteFirst-clause-cause g c =
-    subst (λ r. IfErr r (λ why. IsCaused 2 (Flush c.args.page) why c.save.new.core)) (sym (handed_on c.from_residual-in_err-ended-in-WriteFirst.result c.in_err-ended-in-WriteFirst.field-0.0 c.from_residual-in_err-ended-in-WriteFirst.ensures.1))
-    (save-caused c.flush.new.self c.save.new.core 2 (Flush c.args.page) c.in-WriteFirst.ticket c.in_err-ended-in-WriteFirst.field-0.0 c.in_err-ended-in-WriteFirst.ensures.outcome)
+    subst (λ r. IfErr r (λ why. IsCaused (Flush c.args.page) why c.save.new.core)) (sym (handed_on c.from_residual-in_err-ended-in-WriteFirst.result c.in_err-ended-in-WriteFirst.field-0.0 c.from_residual-in_err-ended-in-WriteFirst.ensures.1))
+    (save-caused c.flush.new.self c.save.new.core (Flush c.args.page) c.in-WriteFirst.ticket c.in_err-ended-in-WriteFirst.field-0.0 c.in_err-ended-in-WriteFirst.ensures.outcome)
 
 pub returns-in_err-flush-clause-cause : goal.returns-in_err-flush-clause-cause
 returns-in_err-flush-clause-cause g c =
-    subst (λ r. IfErr r (λ why. IsCaused 2 (Flush c.args.page) why c.flush.new.self)) (sym (handed_on c.from_residual.result c.in_err-flush.field-0.0 c.from_residual.ensures.1))
+    subst (λ r. IfErr r (λ why. IsCaused (Flush c.args.page) why c.flush.new.self)) (sym (handed_on c.from_residual.result c.in_err-flush.field-0.0 c.from_residual.ensures.1))
     (flush-caused c.args.core.now c.flush.new.self c.args.client c.args.page c.in_err-flush.field-0.0 c.in_err-flush.ensures.outcome c.in_err-flush.ensures.memory)

@@ -3,4 +3,4 @@ use Rattle.bp_replay.proofs.Ruling.{marks-by-rows}
 use Rattle.bp_replay.proofs.laws.marks_keep_to_the_log_rows.Goals as goal
 
 pub returns : goal.returns
-returns a scripts trail said refused log theirs = marks-by-rows scripts trail said refused log theirs
+returns a script trail said refusals cut theirs within = marks-by-rows script trail said refusals cut theirs within

@@ -34,12 +34,13 @@ returns g c =
     let kept : length new ≡ length old = c.run_jobs.ensures.counted ∙ ap length lent in
     let back = take_at new (drop (length new) old) c.args.jobs.len (omega (arith, kept, c.args.jobs.ok)) in
     let end = c.into_core-core.ensures in
-    let whole : c.all_left-upkeep.new.pool.past ≡ c.into_core-core.result.0.past = sym (ap (λ (core : CoreView). core.past) end.core) in
+    let ended : c.end_receipt.new.self.past ≡ c.into_core-core.result.0.past = sym (ap (λ (core : CoreView). core.past) end.core) in
+    let whole : c.all_left-upkeep.new.pool.past ≡ c.into_core-core.result.0.past = sym (ap (λ (core : CoreView). core.past) c.end_receipt.ensures.same) ∙ ended in
     record {
       parameters = end.parameters;
       left = λ given are. all_left_by g.N.PoolName.parameters g.P.Port.geometry_of c.into_core-core.result.0 g.W.SharingWorker.leaves (upkeep_value c.all_left-upkeep.result.0) given old new c.all_left-upkeep.result.1.items are kept (rw lent at c.run_jobs.ensures.ran) (rw whole at (rw c.requires.new at (rw back at c.all_left-upkeep.ensures.left))) (sym end.parameters)
           (rw back at c.all_left-upkeep.ensures.upkeep) (sym end.before, omega (arith, end.seen, c.close.ensures.seen, c.close.ensures.frontier, c.into_log_end.ensures.frontier));
-      agrees = (_, c.state.invariant);
+      agrees = record { seen = _; agrees_with = c.state.invariant; older = rw ended at c.end_receipt.ensures.older };
       refused = tt;
     }
 

@@ -39,8 +39,15 @@ invariant_of-self-in-Err-Unknown g c =
       subst (λ bs. All (λ b. g.K.ListKeeper.fits b size) bs) (sym c.push_reserved.ensures.items) (All-append (λ b. g.K.ListKeeper.fits b size) blanks (c.clear.result ∷ []) rest (search rules)),
     )
 
-pub returns-in-Ok-clause-alike : goal.returns-in-Ok-clause-alike
-returns-in-Ok-clause-alike g c =
-    rw (← c.self.view_is)
-    (loaded_alike _ _ _ _ c.self.inside.client c.grant-given.result c.args.image c.in-Ok.pass (search rules) c.in-Ok.ensures
-    (next_past _ _ _ _ _ c.record_load.ensures ∙ search rules))
+pub returns-in-Ok-clause-keeps : goal.returns-in-Ok-clause-keeps
+returns-in-Ok-clause-keeps g c = record {
+  adds = record {
+    parameters = search rules;
+    before = search rules;
+    owner = search rules;
+    alike = rw (← c.self.view_is)
+        (loaded_alike _ _ _ _ c.self.inside.client c.grant-given.result c.args.image c.in-Ok.pass (search rules) c.in-Ok.ensures
+        (next_past _ _ _ _ _ c.record_load.ensures ∙ search rules));
+  };
+  durable_stays = search rules;
+}

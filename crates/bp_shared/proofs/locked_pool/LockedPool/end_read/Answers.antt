@@ -11,11 +11,11 @@ use Rattle.bp_shared.proofs.locked_pool.LockedPool.end_read.Goals as goal
 pub invariant_of-self : goal.invariant_of-self
 invariant_of-self g c =
     let done = c.end_read-ended.ensures in
-    let adds = adds_one c.session.inside.book.client _ _ _ _ done.alike (end_read_one _ _ _ _ _ _ (rw (← c.session.view_is) at c.requires.owes) done.outcome) in (
+    let adds = adds_one c.session.inside.book.client _ _ _ _ done.keeps.adds.alike (end_read_one _ _ _ _ _ _ (rw (← c.session.view_is) at c.requires.owes) done.outcome) in (
       search rules,
       search rules,
       shown_more _ _ c.session.inside.book.client _ _ _ _ _ _ _ _ c.self.invariant.2 (own_line _ _ _ _ _ (ap g.N.PartNames.ring (rw (← c.self.view_is, ← c.session.view_is) at c.requires.entered.part)) c.session.invariant.3) (rw (← c.self.view_is, ← c.session.view_is) at c.requires.entered.list_is) adds c.write.ensures,
-      posted_adds _ _ _ c.session.inside.book.client _ _ _ _ c.self.invariant.3 adds done.owner.unfixes_are,
+      posted_adds _ _ _ c.session.inside.book.client _ _ _ _ c.self.invariant.3 adds done.keeps.adds.owner.unfixes_are,
       c.self.invariant.4,
       earlier_seen _ _ _ _ _ _ (earlier_adds _ _ _ _ _ _ _ c.self.invariant.5 adds) c.write-2.ensures,
     )
@@ -23,17 +23,17 @@ invariant_of-self g c =
 pub returns : goal.returns
 returns g c =
     let done = c.end_read-ended.ensures in
-    let adds = adds_one c.session.inside.book.client _ _ _ _ done.alike (end_read_one _ _ _ _ _ _ (rw (← c.session.view_is) at c.requires.owes) done.outcome) in
+    let adds = adds_one c.session.inside.book.client _ _ _ _ done.keeps.adds.alike (end_read_one _ _ _ _ _ _ (rw (← c.session.view_is) at c.requires.owes) done.outcome) in
     let known = read-not-unknown c.self.inside.core c.end_read-ended.new.core c.args.ticket _ _ done.ended
     (read-known _ _ _ _ _ _ (rw (← c.self.view_is) at c.requires.entered.legal) (rw (← c.self.view_is, ← c.session.view_is) at c.requires.entered.list_is) (rw (← c.session.view_is) at c.requires.owes)) in
     rw (← c.self.view_is, ← c.session.view_is) (record {
-      client = done.owner.client;
-      before = done.owner.before;
-      acted = shows _ _ _ _ c.self.inside.core c.end_read-ended.new.core c.self.invariant.0.parameters_are done.parameters c.keeps_the_rules.ensures.legal (rw (← c.self.view_is, ← c.session.view_is) at c.requires.entered.list_is) adds done.owner.client (rw (← c.session.view_is) at c.requires.entered.emptied) refl (line_earlier _ _ _ _ _ _ _ c.self.invariant.5 c.write-2.ensures) c.write-2.ensures.list_is refl;
+      client = done.keeps.adds.owner.client;
+      before = done.keeps.adds.owner.before;
+      acted = shows _ _ _ _ c.self.inside.core c.end_read-ended.new.core c.self.invariant.0.parameters_are done.keeps.adds.parameters c.keeps_the_rules.ensures.legal (rw (← c.self.view_is, ← c.session.view_is) at c.requires.entered.list_is) adds done.keeps.adds.owner.client (rw (← c.session.view_is) at c.requires.entered.emptied) refl (line_earlier _ _ _ _ _ _ _ c.self.invariant.5 c.write-2.ensures) c.write-2.ensures.list_is refl;
       ends = refl;
       known = known;
       passes = done.passes;
       places = done.places known;
       outcome = done.outcome;
-      in_step = step_one _ _ _ _ _ refl done.ended done.alike;
+      in_step = step_one _ _ _ _ _ refl done.ended done.keeps.adds.alike;
     })

@@ -11,11 +11,11 @@ use Rattle.bp_shared.proofs.locked_pool.LockedPool.purge.Goals as goal
 pub invariant_of-self : goal.invariant_of-self
 invariant_of-self g c =
     let done = c.ask_purge-answer.ensures in
-    let adds = adds_one c.session.inside.book.client _ _ _ _ done.alike (purge_one _ _ _ _ done.outcome) in (
+    let adds = adds_one c.session.inside.book.client _ _ _ _ done.keeps.adds.alike (purge_one _ _ _ _ done.outcome) in (
       search rules,
       search rules,
       shown_more _ _ c.session.inside.book.client _ _ _ _ _ _ _ _ c.self.invariant.2 (own_line _ _ _ _ _ (ap g.N.PartNames.ring (rw (← c.self.view_is, ← c.session.view_is) at c.requires.entered.part)) c.session.invariant.3) (rw (← c.self.view_is, ← c.session.view_is) at c.requires.entered.list_is) adds c.write.ensures,
-      posted_adds _ _ _ c.session.inside.book.client _ _ _ _ c.self.invariant.3 adds done.owner.unfixes_are,
+      posted_adds _ _ _ c.session.inside.book.client _ _ _ _ c.self.invariant.3 adds done.keeps.adds.owner.unfixes_are,
       c.self.invariant.4,
       earlier_seen _ _ _ _ _ _ (earlier_adds _ _ _ _ _ _ _ c.self.invariant.5 adds) c.write-2.ensures,
     )
@@ -23,13 +23,13 @@ invariant_of-self g c =
 pub returns-clause-in_step : goal.returns-clause-in_step
 returns-clause-in_step g c =
     let done = c.ask_purge-answer.ensures in
-    rw (← c.self.view_is, ← c.session.view_is) (step_one _ _ _ _ _ refl done.asked done.alike)
+    rw (← c.self.view_is, ← c.session.view_is) (step_one _ _ _ _ _ refl done.asked done.keeps.adds.alike)
 
 pub returns-clause-acted : goal.returns-clause-acted
 returns-clause-acted g c =
     let done = c.ask_purge-answer.ensures in
-    let adds = adds_one c.session.inside.book.client _ _ _ _ done.alike (purge_one _ _ _ _ done.outcome) in
-    rw (← c.session.view_is) (shows _ _ _ _ c.self.inside.core c.ask_purge-answer.new.core c.self.invariant.0.parameters_are done.parameters c.keeps_the_rules.ensures.legal (rw (← c.self.view_is, ← c.session.view_is) at c.requires.entered.list_is) adds done.owner.client (rw (← c.session.view_is) at c.requires.entered.emptied) refl (line_earlier _ _ _ _ _ _ _ c.self.invariant.5 c.write-2.ensures) c.write-2.ensures.list_is refl)
+    let adds = adds_one c.session.inside.book.client _ _ _ _ done.keeps.adds.alike (purge_one _ _ _ _ done.outcome) in
+    rw (← c.session.view_is) (shows _ _ _ _ c.self.inside.core c.ask_purge-answer.new.core c.self.invariant.0.parameters_are done.keeps.adds.parameters c.keeps_the_rules.ensures.legal (rw (← c.self.view_is, ← c.session.view_is) at c.requires.entered.list_is) adds done.keeps.adds.owner.client (rw (← c.session.view_is) at c.requires.entered.emptied) refl (line_earlier _ _ _ _ _ _ _ c.self.invariant.5 c.write-2.ensures) c.write-2.ensures.list_is refl)
 
 pub returns-clause-room : goal.returns-clause-room
 returns-clause-room g c = let done = c.ask_purge-answer.ensures in λ is. let no = purge_full _ _ _ _ done.asked is in fills 1 1 _ c.self.inside.core c.ask_purge-answer.new.core _ c.self.invariant.0.parameters_are (omega arith) no.0 no.1 c.write-2.ensures.list_is

@@ -1,0 +1,9 @@
+pub mod Firsts
+pub mod Framing
+pub mod Lives
+pub mod LogFiles
+pub mod CommitsRead
+pub mod Redoing
+pub mod Pools
+pub mod Heads
+pub mod Refusals

@@ -1,0 +1,15 @@
+-- What recovery promises: what a device of pages may have, and what redo makes of it.
+pub mod Disk
+pub mod Promise
+-- What each step of redo does.
+pub mod Steps
+-- The records of a log as bytes.
+pub mod Frames
+-- A file of bytes, and what a crash leaves of it.
+pub mod Files
+-- A log in a file.
+pub mod Lives
+pub mod LogFiles
+-- Commits as records of a log.
+pub mod Commits
+pub mod Heads

@@ -1,0 +1,102 @@
+-- A log in a file, as its calls leave it.
+use Rattle.std.specs.Prelude.{◌≡◌, ◌⊎◌, ℕ, ◌+◌, ◌-◌, ◌^◌, ◌<◌, ◌≤◌, Bool, true, false, not, List, [], ◌∷◌, ◌++◌, length, replicate, OnOk, OnErr}
+use Rattle.std.specs.declared.result.Result.{Result}
+use Rattle.bp_ports.specs.Files.{Transfer, StoreSync}
+use Rattle.example_log.specs.declared.log.LogFile.{LogFile}
+use Rattle.example_log.specs.declared.log.LogFault.{LogFault}
+use Rattle.example_log.specs.declared.log.LogFault.TheVariants.{Memory, Device as FileFailed, Full, Ended}
+use Rattle.example_log.specs.Frames.{frame, frames}
+use Rattle.example_log.specs.Files.{FileCall, FileDid}
+use Rattle.example_log.specs.Lives.{LogLife}
+
+-- a log that lived so, and, if it is not ended, where its next record is to stand
+pub record IsLogFile {S : Type 0} (first : List ℕ) (start : ℕ) (calls : List FileCall)
+    (log : List (List ℕ)) (durable : ℕ) (file : LogFile S) : Type 0 where
+  pub life : LogLife first start (not file.is_ended) calls log durable
+  pub positive : 1 ≤ start
+  pub size : file.size ≡ length first
+  pub end : file.is_ended ≡ false → file.end ≡ length (frames start log)
+  pub next : file.is_ended ≡ false → file.next ≡ start + length log
+
+-- after an error it has ended, and else as it had before
+abbrev pub EndsOnError : {S X E : Type 0} → LogFile S → LogFile S → Result X E → Type 0
+EndsOnError old new result =
+    OnErr result (new.is_ended ≡ true) × OnOk result (new.is_ended ≡ old.is_ended)
+
+-- why a file was not read: memory was short, and nothing was read; or the read failed
+pub data IsUnread {S : Type 0} (reads : Transfer S) (old new : S) : LogFault → Type 0 where
+  no_memory : new ≡ old → IsUnread reads old new Memory
+  failed : (bytes : List ℕ) → reads old 0 bytes false new → IsUnread reads old new FileFailed
+
+-- a record may stand behind the last one, under the next LSN
+pub record HasRoom {S : Type 0} (file : LogFile S) (payload : List ℕ) : Type 0 where
+  pub alive : file.is_ended ≡ false
+  pub lsn : file.next < 2 ^ 64 - 1
+  pub room : file.end + length (frame file.next payload) ≤ file.size
+
+-- why a record was not appended
+pub data AppendFault {S : Type 0} (writes : Transfer S) (old : LogFile S) (payload : List ℕ)
+    (new : LogFile S) : LogFault → Type 0 where
+  has_ended : old.is_ended ≡ true → new ≡ old → AppendFault writes old payload new Ended
+  no_memory : old.is_ended ≡ false → new ≡ old → AppendFault writes old payload new Memory
+  no_lsn : old.is_ended ≡ false → 2 ^ 64 - 1 ≤ old.next → new ≡ old
+      → AppendFault writes old payload new Full
+  no_room : old.is_ended ≡ false → old.size < old.end + length (frame old.next payload) → new ≡ old
+      → AppendFault writes old payload new Full
+  failed : old.is_ended ≡ false → new.is_ended ≡ true
+      → writes old.store old.end (frame old.next payload) false new.store
+      → AppendFault writes old payload new FileFailed
+
+-- why a log was not begun in a file of so many bytes
+pub data BeginFault (size lsn : ℕ) (head : List ℕ) : LogFault → Type 0 where
+  no_memory : BeginFault size lsn head Memory
+  failed : BeginFault size lsn head FileFailed
+  no_lsn : 2 ^ 64 - 1 ≤ lsn → BeginFault size lsn head Full
+  no_room : size < length (frame lsn head) → BeginFault size lsn head Full
+
+-- the next record is to stand where it was to
+abbrev pub SamePlace : {S : Type 0} → LogFile S → LogFile S → Type 0
+SamePlace old new = (new.size ≡ old.size) × (new.end ≡ old.end) × (new.next ≡ old.next)
+
+-- a call that goes on with such a life, and leaves a log and a number of durable records that are so
+pub record GoesOn {S : Type 0} (reads writes : Transfer S) (syncs : StoreSync S) (old new : LogFile S)
+    (first : List ℕ) (start : ℕ) (calls : List FileCall) (so : List (List ℕ) → ℕ → Type 0)
+    : Type 0 where
+  pub more : List FileCall
+  pub log : List (List ℕ)
+  pub durable : ℕ
+  pub did : FileDid reads writes syncs old.store more new.store
+  pub is : IsLogFile first start (more ++ calls) log durable new
+  pub is_so : so log durable
+
+-- the calls by which a file is wiped, some of them or all
+pub data Wipes (size : ℕ) : List FileCall → Type 0 where
+  nothing : Wipes size []
+  wrote : (good : Bool) → Wipes size (FileCall.Write 0 (replicate size 0) good ∷ [])
+  unsynced : Wipes size (FileCall.Sync false ∷ FileCall.Write 0 (replicate size 0) true ∷ [])
+
+-- a file that was wiped, durably, or why not
+abbrev pub WipesFile : {S : Type 0} → Transfer S → Transfer S → StoreSync S → ℕ → S → Bool → S → Type 0
+WipesFile {S} reads writes syncs size old true new =
+    (mid : S) × writes old 0 (replicate size 0) true mid × syncs mid true new
+WipesFile reads writes syncs size old false new =
+    (more : List FileCall) × FileDid reads writes syncs old more new × Wipes size more
+
+-- the calls by which a file is written again and synced, some of them or all
+pub data Settles (bytes : List ℕ) : List FileCall → Bool → Type 0 where
+  nothing : Settles bytes [] false
+  unwritten : Settles bytes (FileCall.Again bytes false ∷ []) false
+  synced : (good : Bool) → Settles bytes (FileCall.Sync good ∷ FileCall.Again bytes true ∷ []) good
+
+-- a log that was begun with one record, durably, or why not: the file was not wiped durably; or the
+-- life has begun
+abbrev pub Begins : {S : Type 0} → Transfer S → Transfer S → StoreSync S → LogFile S → LogFile S
+    → List ℕ → ℕ → List FileCall → List ℕ → Bool → Type 0
+Begins reads writes syncs old new first start before head true =
+    GoesOn reads writes syncs old new first start before
+    (λ log durable. (log ≡ head ∷ []) × (durable ≡ 1))
+Begins reads writes syncs old new first start before head false =
+    ((more : List FileCall) × FileDid reads writes syncs old.store more new.store
+    × Wipes (length first) more × (new.is_ended ≡ true))
+    ⊎ GoesOn reads writes syncs old new first start before
+    (λ log durable. ((log ≡ []) ⊎ (log ≡ head ∷ [])) × (durable ≡ 0))

@@ -1,7 +1,0 @@
--- The changes so far lie within pages.
-use Rattle.std.proofs.Common.{take}
-use Rattle.example_recovery.specs.Opening.{AreWithin}
-use Rattle.example_recovery.proofs.opening.check.Given as goal
-
-abbrev pub invariant-loop-change : goal.invariant-loop-change
-invariant-loop-change l = AreWithin l.device.pages l.device.size (take l.change-index l.changes)

@@ -1,5 +1,0 @@
-use Rattle.example_recovery.proofs.CommitsRead.{whole-commits}
-use Rattle.example_recovery.proofs.reading.a_crash_leaves_whole_commits.Goals as goal
-
-pub returns : goal.returns
-returns c = whole-commits

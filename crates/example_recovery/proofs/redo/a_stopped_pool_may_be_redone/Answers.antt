@@ -1,5 +1,0 @@
-use Rattle.example_recovery.proofs.Pools.{pool-left}
-use Rattle.example_recovery.proofs.redo.a_stopped_pool_may_be_redone.Goals as goal
-
-pub returns : goal.returns
-returns c = pool-left

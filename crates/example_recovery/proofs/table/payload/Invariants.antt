@@ -1,8 +1,0 @@
--- The payload so far has the changes so far, under whatever LSN.
-use Rattle.std.proofs.Common.{◌≡◌, ℕ, map, take}
-use Rattle.example_recovery.specs.Commits.{AreChanges, payload_of}
-use Rattle.example_recovery.specs.TableCalls.{under}
-use Rattle.example_recovery.proofs.table.payload.Given as goal
-
-abbrev pub invariant-loop-change : goal.invariant-loop-change
-invariant-loop-change l = (lsn : ℕ) → (l.payload.items ≡ payload_of (map (under lsn) (take l.change-index l.changes))) × AreChanges lsn (map (under lsn) (take l.change-index l.changes))

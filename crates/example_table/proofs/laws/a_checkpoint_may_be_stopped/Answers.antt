@@ -1,0 +1,21 @@
+use Rattle.std.proofs.Common.{inr, refl, [], ◌+◌, length, arith}
+use Rattle.example_table.proofs.Checkpoints.{may-be-opened, old-good, old-left, old-long, old-synced, old-written}
+use Rattle.example_table.proofs.Sounding.{all-shut, all-sound}
+use Rattle.example_table.proofs.laws.a_checkpoint_may_be_stopped.Goals as goal
+
+pub returns-clause-moving : goal.returns-clause-moving
+returns-clause-moving g = λ c tears first left table file other_file bytes other cut start alive past calls log_calls opening_calls before other_calls commits kept n ran saved reopened honestly sized file_left tells long below_synced below_written beginning other_left other_tells leaves.
+    may-be-opened c tears first left table file other_file bytes other cut start alive past calls log_calls opening_calls before other_calls commits kept n ran saved reopened honestly sized file_left tells long below_synced below_written beginning other_left other_tells leaves
+    (all-sound c table cut file start alive past past calls log_calls commits (1 + length commits) [] ran tears (omega arith))
+    (λ p. inr (all-shut c table cut file start alive past past calls log_calls commits (1 + length commits) [] ran refl saved p))
+
+pub returns-clause-follows : goal.returns-clause-follows
+returns-clause-follows g = λ file start to alive calls later log kept durable n life reopened lt. (
+  old-long file start to alive calls later log kept durable n life reopened lt,
+  old-synced file start to alive calls later log kept durable n life reopened lt,
+  old-written file start to alive calls later log kept durable n life reopened lt,
+  old-left file start to alive calls later log kept durable n life reopened lt,
+)
+
+pub returns-clause-good : goal.returns-clause-good
+returns-clause-good g = old-good

@@ -1,0 +1,139 @@
+//! Why a table recovers: the laws of a crash at any moment. A call that is a law does nothing: its contract is the law.
+ghost use Rattle.std.specs.Prelude.{◌≡◌, ◌⊎◌, ◌+◌, ◌<◌, ℕ, Bool, true, false, List, [], ◌++◌, length, reverse};
+ghost use Rattle.bp_trail.specs.declared.records.LogRecord.{LogRecord as Record};
+ghost use Rattle.bp_trail.specs.Parameters.{Parameters};
+ghost use Rattle.bp_trail.specs.Trail.{Trail};
+ghost use Rattle.bp_trail.specs.Recovery.{redo};
+ghost use Rattle.bp_trail.specs.Saved.{unsaved};
+ghost use Rattle.example_log.specs.Commits.{Kept, changes_of, log_of};
+ghost use Rattle.example_log.specs.Disk.{DeviceCall, Honest, MayBring, MayLeave};
+ghost use Rattle.example_log.specs.Files.{FileCall, FileLeaves, IsSettled, SettledLeaves, failed, synced as synced_bytes, written as written_bytes};
+ghost use Rattle.example_log.specs.Lives.{LogLife, Reopened, TellsTrue};
+ghost use Rattle.example_log.specs.LogFiles.{Wipes};
+ghost use Rattle.example_log.specs.Promise.{MayBeRedone, Recovers};
+ghost use Rattle.example_table.specs.Opening.{AreWithin, Beginning, BeginsBefore, FindsLog, IsNewer, MayBeOpened, again_of};
+ghost use Rattle.example_table.specs.Tables.{Cut, TableRan};
+
+/// Stop a table at any moment of its device since its log was begun, by a loss of power or by the end of its process
+/// alone, and openings after it at any moment before they redo a page. What is found of its log, whatever the other file
+/// has from before, are then the first commits, each whole, and no fewer than were synced; and whatever the device has may
+/// be redone, to what all commits before that log, and these, make of the first images. It does nothing: its contract is
+/// the law.
+pub fn a_crash_is_mended()
+    ensures { (c : Parameters) (tears : Bool) (first left : ℕ → List ℕ)
+        (table file bytes other : List ℕ) (cut : Cut) (start : ℕ) (alive : Bool)
+        (past synced : Trail)
+        (calls later so_far : List DeviceCall) (log_calls opening_calls : List FileCall)
+        (commits : List (List Record)) (kept : List (List ℕ)) (durable n found last : ℕ)
+        (changes pending : List Record) →
+        TableRan c table cut file start alive past synced calls log_calls commits durable pending →
+        Reopened file start log_calls (log_of table commits) durable opening_calls kept n →
+        Honest tears first calls → ((p : ℕ) → length (first p) ≡ c.size) →
+        calls ≡ later ++ (so_far ++ cut.calls) →
+        FileLeaves file opening_calls bytes → TellsTrue start (synced_bytes file opening_calls)
+        (written_bytes file opening_calls) bytes →
+        BeginsBefore start other →
+        ((p : ℕ) → MayLeave tears first (so_far ++ cut.calls) p (left p)) →
+        FindsLog table bytes other found last changes →
+        Kept start durable commits found last changes × MayBeRedone tears c.size 0 (reverse changes)
+        (λ p. redo 0 (reverse (changes_of cut.commits ++ changes)) p (first p)) left }
+{}
+
+/// Stop a table within a checkpoint, once its pages are synced, whatever of the next log is begun: what is found then makes
+/// of the pages what all commits make of the first images. An opening may come, and end, while it makes what it read
+/// durable. When the next log has been begun, and also when a second checkpoint comes, the file of the log before it has
+/// none that begins as late, whatever a crash leaves of it (`follows`). It does nothing: its contract is the law.
+pub fn a_checkpoint_may_be_stopped()
+    ensures moving { (c : Parameters) (tears : Bool) (first left : ℕ → List ℕ)
+        (table file other_file bytes other : List ℕ) (cut : Cut) (start : ℕ) (alive : Bool)
+        (past : Trail) (calls : List DeviceCall)
+        (log_calls opening_calls before other_calls : List FileCall) (commits : List (List Record))
+        (kept : List (List ℕ)) (n : ℕ) →
+        TableRan c table cut file start alive past past calls log_calls commits
+        (1 + length commits) [] →
+        ((p : ℕ) → unsaved past p ≡ false) → Reopened file start log_calls (log_of table commits)
+        (1 + length commits) opening_calls kept n → Honest tears first calls →
+        ((p : ℕ) → length (first p) ≡ c.size) → FileLeaves file opening_calls bytes →
+        TellsTrue start (synced_bytes file opening_calls) (written_bytes file opening_calls) bytes →
+        length (written_bytes other_file before) ≡ length other_file →
+        BeginsBefore start (synced_bytes other_file before) →
+        BeginsBefore start (written_bytes other_file before) →
+        Beginning other_file (start + 1 + length commits) table before other_calls →
+        FileLeaves other_file other_calls other → TellsTrue (start + 1 + length commits)
+        (synced_bytes other_file other_calls) (written_bytes other_file other_calls) other →
+        ((p : ℕ) → MayLeave tears first calls p (left p)) →
+        MayBeOpened tears c.size table bytes other
+        (λ p. redo 0 (reverse (changes_of (cut.commits ++ commits))) p (first p)) left }
+    ensures follows { (file : List ℕ) (start to : ℕ) (alive : Bool) (calls later : List FileCall)
+        (log kept : List (List ℕ)) (durable n : ℕ) → LogLife file start alive calls log durable →
+        Reopened file start calls log durable later kept n → start < to →
+        (length (written_bytes file later) ≡ length file)
+        × BeginsBefore to (synced_bytes file later) × BeginsBefore to (written_bytes file later)
+        × ((left : List ℕ) → FileLeaves file later left → TellsTrue start (synced_bytes file later)
+        (written_bytes file later) left → BeginsBefore to left) }
+    ensures good { (file : List ℕ) (start : ℕ) (calls : List FileCall) (log : List (List ℕ))
+        (durable : ℕ) → LogLife file start true calls log durable → failed calls ≡ false }
+{}
+
+/// Stop an opening at any moment, by a loss of power or by the end of its process alone. What is found in both files
+/// then makes of the pages what they were to be, as often as it is stopped. Reads brought `seen` of the pages when it
+/// began, which a loss of power might have left too, and `first` is what it would have left. The newer log was written
+/// again before any page was. The other file may be as an opening left it that ended while it wiped it: it need not be
+/// durable, as long as no log that begins as late is in it, durably or not (`wiping`).
+///
+/// When the opening is done each page is what it was to be, durably, and the log that was read begins before the one
+/// that goes on, also as a checkpoint after it finds its file (`settled`). It does nothing: its contract is the law.
+/// What is left before that is law `a_crash_is_mended`.
+pub fn an_opening_may_be_stopped()
+    ensures seen { (tears : Bool) (first : ℕ → List ℕ) (calls : List DeviceCall) (p : ℕ)
+        (image : List ℕ) → MayBring tears first calls p image → MayLeave tears first calls p image }
+    ensures redoing { (tears : Bool) (pages size : ℕ) (wanted seen first left : ℕ → List ℕ)
+        (table newer older left_newer left_older : List ℕ) (begun last : ℕ) (changes : List Record)
+        (done : Bool) (calls later so_far : List DeviceCall) →
+        (is : IsNewer table newer older begun last changes) →
+        SettledLeaves (again_of is) left_newer →
+        BeginsBefore begun left_older → MayBeRedone tears size 0 (reverse changes) wanted seen →
+        MayBeRedone tears size 0 (reverse changes) wanted first → Honest tears seen calls →
+        Recovers pages size 0 (reverse changes) calls done → calls ≡ later ++ so_far →
+        ((p : ℕ) → MayLeave tears first so_far p (left p)) →
+        MayBeOpened tears size table left_newer left_older wanted left }
+    ensures beginning { (tears : Bool) (pages size : ℕ) (wanted seen first left : ℕ → List ℕ)
+        (table newer older left_newer file left_older : List ℕ) (begun last : ℕ)
+        (changes : List Record) (calls : List DeviceCall) (before log_calls : List FileCall) →
+        (is : IsNewer table newer older begun last changes) →
+        SettledLeaves (again_of is) left_newer →
+        AreWithin pages size changes → MayBeRedone tears size 0 (reverse changes) wanted seen →
+        MayBeRedone tears size 0 (reverse changes) wanted first → Honest tears seen calls →
+        Recovers pages size 0 (reverse changes) calls true →
+        ((p : ℕ) → MayLeave tears first calls p (left p)) →
+        length (written_bytes file before) ≡ length file →
+        BeginsBefore begun (synced_bytes file before) →
+        BeginsBefore begun (written_bytes file before) →
+        Beginning file (last + 1) table before log_calls → FileLeaves file log_calls left_older →
+        TellsTrue (last + 1) (synced_bytes file log_calls) (written_bytes file log_calls)
+        left_older →
+        MayBeOpened tears size table left_newer left_older wanted left }
+    ensures wiping { (file : List ℕ) (begun : ℕ) (before more : List FileCall) →
+        length (written_bytes file before) ≡ length file →
+        BeginsBefore begun (synced_bytes file before) →
+        BeginsBefore begun (written_bytes file before) → Wipes (length file) more →
+        (length (written_bytes file (more ++ before)) ≡ length file)
+        × BeginsBefore begun (synced_bytes file (more ++ before))
+        × BeginsBefore begun (written_bytes file (more ++ before)) }
+    ensures settled { (table newer older file : List ℕ) (begun last : ℕ) (changes : List Record)
+        (calls : List FileCall) → (is : IsNewer table newer older begun last changes) →
+        IsSettled file (again_of is) calls →
+        (length (written_bytes file calls) ≡ length (again_of is))
+        × BeginsBefore (last + 1) (synced_bytes file calls)
+        × BeginsBefore (last + 1) (written_bytes file calls) }
+    ensures done { (tears : Bool) (pages size : ℕ) (wanted seen first left : ℕ → List ℕ)
+        (table newer older left_newer : List ℕ) (begun last : ℕ) (changes : List Record)
+        (calls : List DeviceCall) →
+        (is : IsNewer table newer older begun last changes) →
+        SettledLeaves (again_of is) left_newer →
+        AreWithin pages size changes → MayBeRedone tears size 0 (reverse changes) wanted seen →
+        MayBeRedone tears size 0 (reverse changes) wanted first → Honest tears seen calls →
+        Recovers pages size 0 (reverse changes) calls true →
+        ((p : ℕ) → MayLeave tears first calls p (left p)) →
+        ((p : ℕ) → left p ≡ wanted p) × BeginsBefore (last + 1) left_newer }
+{}
