@@ -6,30 +6,28 @@ use std::process::Abort;
 const BEGIN: &str =
     "<svg xmlns='http://www.w3.org/2000/svg' viewBox='0 0 9400 5200' width='940' height='520' role='img'>\n";
 
-/// The rest of the picture. A hit ratio of 0 is at 4,400, and 1 is 4,000 higher. From 64 frames on there are two
-/// doublings: 64 is at the left, 128 in the middle, 192 halfway on, and 256 at the right. 2 hits of 8 fixes are 1,000
-/// tenths of a pixel above 4,400, and 8 hits are 4,000.
+/// The rest of the picture. The least hit ratio is 2 of 8, so the axis begins at 0.2, which is at 4,400, and 1 is 4,000
+/// higher: a tenth is 500. From 64 frames on there are two doublings: 64 is at the left, 128 in the middle, 192 halfway
+/// on, and 256 at the right. 2 hits of 8 fixes are half a tenth above the beginning, and 5 hits four tenths and a quarter.
 const REST: &str = "\
-<path class='grid' d='M800 4400h6400'/><text class='left' x='720' y='4400' dy='45'>0.0</text>
-<path class='grid' d='M800 4000h6400'/><text class='left' x='720' y='4000' dy='45'>0.1</text>
-<path class='grid' d='M800 3600h6400'/><text class='left' x='720' y='3600' dy='45'>0.2</text>
-<path class='grid' d='M800 3200h6400'/><text class='left' x='720' y='3200' dy='45'>0.3</text>
-<path class='grid' d='M800 2800h6400'/><text class='left' x='720' y='2800' dy='45'>0.4</text>
-<path class='grid' d='M800 2400h6400'/><text class='left' x='720' y='2400' dy='45'>0.5</text>
-<path class='grid' d='M800 2000h6400'/><text class='left' x='720' y='2000' dy='45'>0.6</text>
-<path class='grid' d='M800 1600h6400'/><text class='left' x='720' y='1600' dy='45'>0.7</text>
-<path class='grid' d='M800 1200h6400'/><text class='left' x='720' y='1200' dy='45'>0.8</text>
-<path class='grid' d='M800 800h6400'/><text class='left' x='720' y='800' dy='45'>0.9</text>
-<path class='grid' d='M800 400h6400'/><text class='left' x='720' y='400' dy='45'>1.0</text>
+<path class='grid' d='M800 4400h6400'/><text class='left' x='720' y='4400' dy='45'>0.20</text>
+<path class='grid' d='M800 3900h6400'/><text class='left' x='720' y='3900' dy='45'>0.30</text>
+<path class='grid' d='M800 3400h6400'/><text class='left' x='720' y='3400' dy='45'>0.40</text>
+<path class='grid' d='M800 2900h6400'/><text class='left' x='720' y='2900' dy='45'>0.50</text>
+<path class='grid' d='M800 2400h6400'/><text class='left' x='720' y='2400' dy='45'>0.60</text>
+<path class='grid' d='M800 1900h6400'/><text class='left' x='720' y='1900' dy='45'>0.70</text>
+<path class='grid' d='M800 1400h6400'/><text class='left' x='720' y='1400' dy='45'>0.80</text>
+<path class='grid' d='M800 900h6400'/><text class='left' x='720' y='900' dy='45'>0.90</text>
+<path class='grid' d='M800 400h6400'/><text class='left' x='720' y='400' dy='45'>1.00</text>
 <path class='grid' d='M800 400v4000'/><text class='middle small' x='800' y='4600'>64</text>
 <path class='grid' d='M4000 400v4000'/><text class='middle small' x='4000' y='4600'>128</text>
 <path class='grid' d='M7200 400v4000'/><text class='middle small' x='7200' y='4600'>256</text>
 <path class='axis' d='M800 400v4000h6400'/>
 <g class='c0 d0'>
-<polyline points='800,3400 4000,2400 5600,1900 7200,400 '/>
-<circle cx='800' cy='3400' r='40'><title>64 frames: 2 hits of 8 fixes</title></circle>
-<circle cx='4000' cy='2400' r='40'><title>128 frames: 4 hits of 8 fixes</title></circle>
-<circle cx='5600' cy='1900' r='40'><title>192 frames: 5 hits of 8 fixes</title></circle>
+<polyline points='800,4150 4000,2900 5600,2275 7200,400 '/>
+<circle cx='800' cy='4150' r='40'><title>64 frames: 2 hits of 8 fixes</title></circle>
+<circle cx='4000' cy='2900' r='40'><title>128 frames: 4 hits of 8 fixes</title></circle>
+<circle cx='5600' cy='2275' r='40'><title>192 frames: 5 hits of 8 fixes</title></circle>
 <circle cx='7200' cy='400' r='40'><title>256 frames: 8 hits of 8 fixes</title></circle>
 <path d='M7450 500h600'/><text x='8150' y='500' dy='45'>K = 1 (LRU)</text>
 </g>
