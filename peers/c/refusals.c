@@ -675,7 +675,7 @@ static void texts(void)
         {HZ_NO_CORE, "the handle has no core"},
         {HZ_HAS_CORE, "the handle has a core already"},
         {HZ_NULL, "a pointer is null"},
-        {24, "the clients' lists and the trail do not agree"},
+        {24, "a mark came before the log rows of client 0 allow it"},
         {15, "unknown number"},
         {65535, "unknown number"},
     };

@@ -96,7 +96,7 @@ Numbers after the word refused:
   21  the clock would pass its end
   22  out of memory
   23  the ring of passes to give back is full
-  24  the clients' lists and the trail do not agree
+  24  a mark came before the log rows of client 0 allow it
   25  the page is pinned
   40  a record does not have the fields of its operation, or lacks the column of a sweep
   41  no client has this number here

@@ -21,7 +21,7 @@ explanations = (
     ∷ (21, codes "the clock would pass its end")
     ∷ (22, codes "out of memory")
     ∷ (23, codes "the ring of passes to give back is full")
-    ∷ (24, codes "the clients' lists and the trail do not agree")
+    ∷ (24, codes "a mark came before the log rows of client 0 allow it")
     ∷ (25, codes "the page is pinned")
     ∷ (
       40,

@@ -24,7 +24,7 @@ pub fn explanation_of(number: u64) -> Option<&'static str>
         21 => Some("the clock would pass its end"),
         22 => Some("out of memory"),
         23 => Some("the ring of passes to give back is full"),
-        24 => Some("the clients' lists and the trail do not agree"),
+        24 => Some("a mark came before the log rows of client 0 allow it"),
         25 => Some("the page is pinned"),
         40 => Some(
             "a record does not have the fields of its operation, or lacks the column of a sweep",

@@ -43,8 +43,7 @@ pub enum Refusal {
     OutOfMemory,
     /// Each of the 32 places of the session's ring has a pass that the pool has not taken yet.
     RingFull,
-    /// In a run of threads a client held a pass that the pool did not know, or could not give one back. Or after it a
-    /// client's list is not its part of the trail, or the log was marked ahead of client 0's rows.
+    /// In a run of threads a mark came before the log rows of client 0 allow it.
     Disagree,
     /// The page that is to be discarded is pinned, even if the pass is the caller's own.
     Pinned,

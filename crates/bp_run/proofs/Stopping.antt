@@ -40,7 +40,7 @@ use Rattle.bp_run.specs.Ways.{Ways}
 use Rattle.bp_run.specs.Stops.{EndsBy, IsShown, TakesLong, keeps_out, NotConnected, NotRead, NotReported, StopsRun}
 use Rattle.bp_run.specs.Sweep.{NotShown, NotTaken, NotWritten, StopsSweep}
 
--- ---- a run of threads is refused for want of memory, or lists that do not agree
+-- ---- a run of threads is refused for want of memory, or a mark ahead of the log rows
 
 pub memory_or_disagree : {A : Type 0} (c : Parameters) (result : Result A Refusal) (why : Refusal) → IsFit c → result ≡ Err why → RunAnswers c result → NotReported order.Free (ending.RunRefused why)
 memory_or_disagree c (Ok done) why fit is answers = absurd (let no = is in cc)
