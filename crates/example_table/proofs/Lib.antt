@@ -1,5 +1,6 @@
 pub mod PoolLives
 pub mod Tables
+pub mod Standing
 pub mod Tabling
 pub mod Openings
 pub mod Checkpoints

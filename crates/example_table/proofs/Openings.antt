@@ -21,13 +21,16 @@ use Rattle.example_table.specs.declared.table.TableFault.{TableFault}
 use Rattle.example_log.specs.Commits.{AreCommits, HasCommits, changes_of, log_of, payload_of}
 use Rattle.example_log.specs.Disk.{DeviceCall, Did, Reads, Writes, Syncs, Honest, MayBring, MayLeave, Partly, sync_failed}
 use Rattle.bp_trail.specs.Lists.{some}
-use Rattle.example_log.specs.Files.{FileCall, FileDid, FileLeaves, IsSettled, SettledLeaves, Unsure, failed, settles, synced, written}
+use Rattle.example_log.specs.Files.{FileCall, FileLeaves, IsSettled, SettledLeaves, Unsure, failed, settles, synced, written}
 use Rattle.example_log.specs.Files.FileCall.{Read, Write, Sync}
 use Rattle.example_log.specs.Files.IsSettled.{settled as was_settled, again as settled_again, resynced as settled_synced}
 use Rattle.example_log.specs.Frames.{IsRecord, NoFrame, frame, frames}
 use Rattle.example_log.specs.Lives.{AreRecords, LogLife, Reopened, SameAt, TellsTrue}
 use Rattle.example_log.specs.Lives.Reopened.{ended}
-use Rattle.example_log.specs.LogFiles.{Begins, IsLogFile, IsUnread, Wipes, WipesFile}
+use Rattle.example_log.specs.LogFiles.{Begins, BeginsBy, IsUnread, Wipes, WipesFile}
+use Rattle.example_log.specs.LogFiles.BeginsBy.{wiping as by_wiping, wiped as by_wiped, wrote as by_wrote, synced as by_synced}
+use Rattle.example_log.specs.Lives.LogLife.{wiped as was_wiped, appended, synced as was_synced, unsynced as not_synced}
+use Rattle.example_log.specs.Moments.{AtEach}
 use Rattle.example_log.specs.LogFiles.IsUnread.{no_memory, failed as failed_read}
 use Rattle.example_log.specs.LogFiles.Wipes.{nothing, wrote, unsynced}
 use Rattle.example_table.specs.Opening.{AreWithin, Beginning, BeginsBefore, BeginsLog, CreatesLog, EmptiesFile, IsEmptied, FindsLog, Found, IsNewer, IsOnlyRead, MayBeOpened, MoveFault, Moves, MovesLog, Redid, again_of}
@@ -132,21 +135,44 @@ begun-so : (first : List ℕ) (start : ℕ) (calls : List FileCall) (alive : Boo
     → Beginning first start table before calls
 begun-so first start calls alive table before log durable life is = was_begun life is ended
 
-beginning-of : {S : Type 0} (reads writes : Transfer S) (syncs : StoreSync S) (old new : LogFile S) (first : List ℕ) (start : ℕ) (before : List FileCall) (head : List ℕ) (good : Bool) → Begins reads writes syncs old new first start before head good
-    → (more : List FileCall) × FileDid reads writes syncs old.store more new.store × Beginning first start head before (more ++ before) × (good ≡ true → IsLogFile first start (more ++ before) (head ∷ []) 1 new)
-beginning-of reads writes syncs old new first start before head true g = (
-  g.more,
-  g.did,
-  begun-so first start (g.more ++ before) (not new.is_ended) head before g.log g.durable g.is.life (inr g.is_so.0),
-  λ e. subst (λ (n : ℕ). IsLogFile first start (g.more ++ before) (head ∷ []) n new) g.is_so.1 (subst (λ (xs : List (List ℕ)). IsLogFile first start (g.more ++ before) xs g.durable new) g.is_so.0 g.is),
-)
-beginning-of reads writes syncs old new first start before head false (inl w) = (w.0, w.1, wiping w.2, λ e. absurd (cc))
-beginning-of reads writes syncs old new first start before head false (inr g) = (g.more, g.did, begun-so first start (g.more ++ before) (not new.is_ended) head before g.log g.durable g.is.life g.is_so.0, λ e. absurd (cc))
+module _ (first : List ℕ) (start : ℕ) (table : List ℕ) (before : List FileCall) (well : failed before ≡ false) (long : length (written first before) ≡ length first) where
+  abbrev Begins_at : List FileCall → Type 0
+  Begins_at so_far = Beginning first start table before (so_far ++ before)
 
-pub begins-log : {S : Type 0} (reads writes : Transfer S) (syncs : StoreSync S) (old new : LogFile S) (start : ℕ) (table : List ℕ) (good : Bool)
-    → ((file : List ℕ) (before : List FileCall) → failed before ≡ false → length (written file before) ≡ length file → old.size ≡ length file → Begins reads writes syncs old new file start before table good)
-    → BeginsLog reads writes syncs old new start table good
-begins-log reads writes syncs old new start table good b = λ file before well long size. beginning-of reads writes syncs old new file start before table good (b file before well long size)
+  empty-life : LogLife first start true (Sync true ∷ Write 0 (replicate (length first) 0) true ∷ before) [] 0
+  empty-life = was_wiped well long
+
+  one-life : (good : Bool) → IsRecord start table → length (frame start table) ≤ length first → LogLife first start good (Write 0 (frame start table) good ∷ Sync true ∷ Write 0 (replicate (length first) 0) true ∷ before) (table ∷ []) 0
+  one-life good fit room =
+      let e : start ≡ start + 0 = omega arith in
+      subst (λ (n : ℕ). LogLife first start good (Write 0 (frame n table) good ∷ Sync true ∷ Write 0 (replicate (length first) 0) true ∷ before) (table ∷ []) 0) (sym e)
+      (appended table good empty-life (subst (λ (n : ℕ). IsRecord n table) e fit) (subst (λ (n : ℕ). 0 + length (frame n table) ≤ length first) e (omega arith)))
+
+  first-wipe : (calls : List FileCall) → Wipes (length first) calls → AtEach Begins_at calls
+  first-wipe _ nothing = wiping nothing
+  first-wipe _ (wrote good) = (wiping (wrote good), wiping nothing)
+  first-wipe _ unsynced = (wiping unsynced, (wiping (wrote true), wiping nothing))
+
+  wiped-each : AtEach Begins_at (Sync true ∷ Write 0 (replicate (length first) 0) true ∷ [])
+  wiped-each = (begun-so first start _ true table before [] 0 empty-life (inl refl), (wiping (wrote true), wiping nothing))
+
+  pub each-beginning : (calls : List FileCall) → BeginsBy (length first) start table calls → AtEach Begins_at calls
+  each-beginning _ (by_wiping {calls = calls} w) = first-wipe calls w
+  each-beginning _ by_wiped = wiped-each
+  each-beginning _ (by_wrote good fit room) = (begun-so first start _ good table before (table ∷ []) 0 (one-life good fit room) (inr refl), wiped-each)
+  each-beginning _ (by_synced good fit room) = (last good, (begun-so first start _ true table before (table ∷ []) 0 (one-life true fit room) (inr refl), wiped-each))
+    where
+      last : (good : Bool) → Begins_at (Sync good ∷ Write 0 (frame start table) true ∷ Sync true ∷ Write 0 (replicate (length first) 0) true ∷ [])
+      last true = begun-so first start _ true table before (table ∷ []) 1 (was_synced (one-life true fit room)) (inr refl)
+      last false = begun-so first start _ false table before (table ∷ []) 0 (not_synced (one-life true fit room)) (inr refl)
+
+pub begins-log : {S : Type 0} (reads writes : Transfer S) (syncs : StoreSync S) (old new : LogFile S) (start : ℕ) (table : List ℕ) (good : Bool) → Begins reads writes syncs old new start table good → BeginsLog reads writes syncs old new start table good
+begins-log reads writes syncs old new start table good b = λ file before well long size. (
+  b.calls,
+  b.did,
+  each-beginning file start table before well long b.calls (subst (λ (n : ℕ). BeginsBy n start table b.calls) size b.by),
+  λ e. b.is e file before well long size,
+)
 
 -- zeros have no record
 zeros-before : (begun count : ℕ) → BeginsBefore begun (replicate count 0)
@@ -435,7 +461,7 @@ beyond-as device table newer older pages size first last changes mid why has p s
     subst (λ w. MoveFault device table newer older (Pages w)) (sym h.0)
     (beyond has (λ w. h.1 (subst (AreWithin pages size) (sym same) (subst (λ (n : ℕ). AreWithin n size changes) (sym p) (subst (λ (n : ℕ). AreWithin device.pages n changes) (sym s) w)))))
 
-module _ {S P : Type 0} (reads writes : Transfer S) (syncs : StoreSync S) (page_reads : Reads P) (page_writes : Writes P) (page_syncs : Syncs P) (device : Geometry) (table newer older : List ℕ) (old new : P) (old_newer old_older new_newer new_older : LogFile S) where
+module _ {S P : Type 0} (reads writes : P → Transfer S) (syncs : P → StoreSync S) (page_reads : Reads P) (page_writes : Writes P) (page_syncs : Syncs P) (device : Geometry) (table newer older : List ℕ) (old new : P) (old_newer old_older new_newer new_older : LogFile S) where
   abbrev Moved : Result (Unit {0}) TableFault → Type 0
   Moved r = MovesLog reads writes syncs page_reads page_writes page_syncs device table newer older old old_newer old_older r new new_newer new_older
 
@@ -457,8 +483,8 @@ module _ {S : Type 0} (reads writes : Transfer S) (syncs : StoreSync S) (old new
   pub was-read : (bytes : List ℕ) → reads old.store 0 bytes true new.store → IsOnlyRead reads writes syncs old new
   was-read bytes h = (Read 0 bytes true ∷ [], (old.store, refl, h), tt)
 
-module _ {S P : Type 0} (reads writes : Transfer S) (syncs : StoreSync S) (page_reads : Reads P) (page_writes : Writes P) (page_syncs : Syncs P) (device : Geometry) (table : List ℕ) (old new : P) (newer older mid_newer mid_older new_newer new_older : LogFile S)
-    (passed a b bytes other : List ℕ) (same : passed ≡ table) (same_a : bytes ≡ a) (same_b : other ≡ b) (read_a : reads newer.store 0 a true mid_newer.store) (read_b : reads older.store 0 b true mid_older.store)
+module _ {S P : Type 0} (reads writes : P → Transfer S) (syncs : P → StoreSync S) (page_reads : Reads P) (page_writes : Writes P) (page_syncs : Syncs P) (device : Geometry) (table : List ℕ) (old new : P) (newer older mid_newer mid_older new_newer new_older : LogFile S)
+    (passed a b bytes other : List ℕ) (same : passed ≡ table) (same_a : bytes ≡ a) (same_b : other ≡ b) (read_a : reads old newer.store 0 a true mid_newer.store) (read_b : reads old older.store 0 b true mid_older.store)
     (long_a : length a ≡ newer.size) (long_b : length b ≡ older.size) (kept_a : mid_newer.size ≡ newer.size) (kept_b : mid_older.size ≡ older.size) where
   abbrev MovesTo : Result (Unit {0}) TableFault → Type 0
   MovesTo outcome = mid_newer.size ≡ length bytes → MovesLog reads writes syncs page_reads page_writes page_syncs device passed bytes other old mid_newer mid_older outcome new new_newer new_older
@@ -474,8 +500,8 @@ module _ {S P : Type 0} (reads writes : Transfer S) (syncs : StoreSync S) (page_
         mid_newer = mid_newer;
         mid_older = mid_older;
         outcome = outcome;
-        read_newer = subst (λ (t : List ℕ). reads newer.store 0 t true mid_newer.store) (sym same_a) read_a;
-        read_older = subst (λ (t : List ℕ). reads older.store 0 t true mid_older.store) (sym same_b) read_b;
+        read_newer = subst (λ (t : List ℕ). reads old newer.store 0 t true mid_newer.store) (sym same_a) read_a;
+        read_older = subst (λ (t : List ℕ). reads old older.store 0 t true mid_older.store) (sym same_b) read_b;
         size = (size_b, size_a);
         moves = subst (λ (t : List ℕ). MovesLog reads writes syncs page_reads page_writes page_syncs device t bytes other old mid_newer mid_older outcome new new_newer new_older) same (h size_a);
         told = told;

@@ -16,6 +16,7 @@ use Rattle.example_log.specs.Disk.{DeviceCall, Reads, Writes, Syncs, Did}
 use Rattle.example_log.specs.Files.{FileCall, FileDid, FileLeaves, failed, synced, written}
 use Rattle.example_log.specs.Frames.{IsRecord, NoFrame, frame}
 use Rattle.example_log.specs.Lives.{LogLife, Reopened, whole}
+use Rattle.example_log.specs.Moments.{AtEach}
 use Rattle.example_log.specs.LogFiles.{BeginFault, IsLogFile, IsUnread, Settles, Wipes, WipesFile}
 use Rattle.example_log.specs.Promise.{MayBeRedone, Recovers}
 
@@ -95,7 +96,7 @@ BeginsLog reads writes syncs old new start table good =
     (file : List ℕ) (before : List FileCall) → failed before ≡ false
     → length (written file before) ≡ length file → old.size ≡ length file
     → (more : List FileCall) × FileDid reads writes syncs old.store more new.store
-    × Beginning file start table before (more ++ before)
+    × AtEach (λ so_far. Beginning file start table before (so_far ++ before)) more
     × (good ≡ true → IsLogFile file start (more ++ before) (table ∷ []) 1 new)
 
 -- why an opening is refused before it wrote anything
@@ -115,7 +116,7 @@ pub data MoveFault (device : Geometry) (head newer older : List ℕ) : TableFaul
 -- What an opening does: it is refused, with nothing done; or it writes the newer log again, and that
 -- is not yet durable; or it stops within the redo; or all is redone, and a log is begun in the other
 -- file, in part or durably.
-pub data MovesLog {S P : Type 0} (reads writes : Transfer S) (syncs : StoreSync S)
+pub data MovesLog {S P : Type 0} (reads writes : P → Transfer S) (syncs : P → StoreSync S)
     (page_reads : Reads P) (page_writes : Writes P) (page_syncs : Syncs P) (device : Geometry)
     (table newer older : List ℕ) (old : P) (old_newer old_older : LogFile S)
     : Result (Unit {0}) TableFault → P → LogFile S → LogFile S → Type 0 where
@@ -123,23 +124,23 @@ pub data MovesLog {S P : Type 0} (reads writes : Transfer S) (syncs : StoreSync 
       → MovesLog reads writes syncs page_reads page_writes page_syncs device table newer older
       old old_newer old_older (Err why) old old_newer old_older
   unsettled : {new_newer : LogFile S} (f : Found device table newer older) (calls : List FileCall)
-      (why : TableFault) → FileDid reads writes syncs old_newer.store calls new_newer.store
+      (why : TableFault) → FileDid (reads old) (writes old) (syncs old) old_newer.store calls new_newer.store
       → Settles (again_of f.is_newer) calls false
       → MovesLog reads writes syncs page_reads page_writes page_syncs device table newer older
       old old_newer old_older (Err why) old new_newer old_older
   stopped : {new : P} {new_newer : LogFile S} (f : Found device table newer older)
       (calls : List FileCall) (done : Bool) (why : TableFault)
-      → FileDid reads writes syncs old_newer.store calls new_newer.store
+      → FileDid (reads old) (writes old) (syncs old) old_newer.store calls new_newer.store
       → Settles (again_of f.is_newer) calls true
       → Redid page_reads page_writes page_syncs device f.changes old done new
       → MovesLog reads writes syncs page_reads page_writes page_syncs device table newer older
       old old_newer old_older (Err why) new new_newer old_older
   moved : {new : P} {new_newer new_older : LogFile S} (f : Found device table newer older)
       (calls : List FileCall) (result : Result (Unit {0}) TableFault)
-      → FileDid reads writes syncs old_newer.store calls new_newer.store
+      → FileDid (reads old) (writes old) (syncs old) old_newer.store calls new_newer.store
       → Settles (again_of f.is_newer) calls true
       → Redid page_reads page_writes page_syncs device f.changes old true new
-      → BeginsLog reads writes syncs old_older new_older (f.last + 1) table (is_ok result)
+      → BeginsLog (reads new) (writes new) (syncs new) old_older new_older (f.last + 1) table (is_ok result)
       → MovesLog reads writes syncs page_reads page_writes page_syncs device table newer older
       old old_newer old_older result new new_newer new_older
 
@@ -210,7 +211,7 @@ pub data CreatesLog {S : Type 0} (reads writes : Transfer S) (syncs : StoreSync 
       → CreatesLog reads writes syncs head one two result new_one new_two
 
 -- both files were read, and the log goes on in that of the older one, which is the second or not
-pub record Moves {S P : Type 0} (reads writes : Transfer S) (syncs : StoreSync S)
+pub record Moves {S P : Type 0} (reads writes : P → Transfer S) (syncs : P → StoreSync S)
     (page_reads : Reads P) (page_writes : Writes P) (page_syncs : Syncs P) (device : Geometry)
     (table : List ℕ) (is_second : Bool) (old : P) (newer older : LogFile S) (result : Result Bool TableFault)
     (new : P) (new_newer new_older : LogFile S) : Type 0 where
@@ -219,8 +220,8 @@ pub record Moves {S P : Type 0} (reads writes : Transfer S) (syncs : StoreSync S
   pub mid_newer : LogFile S
   pub mid_older : LogFile S
   pub outcome : Result (Unit {0}) TableFault
-  pub read_newer : reads newer.store 0 bytes true mid_newer.store
-  pub read_older : reads older.store 0 other true mid_older.store
+  pub read_newer : reads old newer.store 0 bytes true mid_newer.store
+  pub read_older : reads old older.store 0 other true mid_older.store
   pub size : (mid_older.size ≡ length other) × (mid_newer.size ≡ length bytes)
   pub moves : MovesLog reads writes syncs page_reads page_writes page_syncs device table bytes other
       old mid_newer mid_older outcome new new_newer new_older
@@ -245,13 +246,13 @@ pub data UnreadFault {S : Type 0} (reads : Transfer S) (head : List ℕ) (one tw
       → OtherHead head bytes why → UnreadFault reads head one two (Log why)
 
 -- an opening that wrote nothing; or the log goes on in the second file, or in the first
-abbrev pub OpensLog : {S P : Type 0} → Transfer S → Transfer S → StoreSync S → Reads P → Writes P
-    → Syncs P → Geometry → List ℕ → P → LogFile S → LogFile S → Result Bool TableFault → P → LogFile S
+abbrev pub OpensLog : {S P : Type 0} → (P → Transfer S) → (P → Transfer S) → (P → StoreSync S)
+    → Reads P → Writes P → Syncs P → Geometry → List ℕ → P → LogFile S → LogFile S → Result Bool TableFault → P → LogFile S
     → LogFile S → Type 0
 OpensLog reads writes syncs page_reads page_writes page_syncs device table old one two result new
     new_one new_two =
-    (IsErr result × IfErr result (UnreadFault reads table one two) × (new ≡ old)
-    × IsOnlyRead reads writes syncs one new_one × IsOnlyRead reads writes syncs two new_two)
+    (IsErr result × IfErr result (UnreadFault (reads old) table one two) × (new ≡ old)
+    × IsOnlyRead (reads old) (writes old) (syncs old) one new_one × IsOnlyRead (reads old) (writes old) (syncs old) two new_two)
     ⊎ Moves reads writes syncs page_reads page_writes page_syncs device table true old one two
     result new new_one new_two
     ⊎ Moves reads writes syncs page_reads page_writes page_syncs device table false old two one
