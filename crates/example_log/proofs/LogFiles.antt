@@ -9,8 +9,9 @@ use Rattle.example_log.specs.Frames.{frame, frames, IsRecord}
 use Rattle.example_log.specs.Files.{FileCall, FileDid, failed as has_failed, written}
 use Rattle.example_log.specs.Files.FileCall.{Write, Again, Sync}
 use Rattle.example_log.specs.Lives.{LogLife}
+use Rattle.example_log.specs.Moments.{AtEach}
 use Rattle.example_log.specs.Lives.LogLife.{wiped as was_wiped, appended, synced as was_synced, unsynced, closed}
-use Rattle.example_log.specs.LogFiles.{AppendFault, BeginFault, HasRoom, IsLogFile, GoesOn, Begins, Settles, WipesFile}
+use Rattle.example_log.specs.LogFiles.{AppendFault, BeginFault, BeginsBy, HasRoom, IsLogFile, GoesOn, Begins, Settles, WipesFile, Wipes}
 use Rattle.example_log.specs.LogFiles.BeginsBy.{wiping, wiped as by_wiped, wrote as by_wrote, synced as by_synced}
 use Rattle.example_log.specs.LogFiles.AppendFault.{has_ended, no_memory, no_lsn, no_room, failed as append_failed}
 use Rattle.example_log.specs.LogFiles.BeginFault.{no_memory as begin_no_memory, failed as begin_failed, no_lsn as begin_no_lsn, no_room as begin_no_room}
@@ -286,3 +287,16 @@ pub memory-or-failed : {A : Type 0} (size lsn : ℕ) (head : List ℕ) (r : Resu
 memory-or-failed size lsn head (Ok x) fault k why = tt
 memory-or-failed size lsn head (Err x) fault k (inl e) = subst (BeginFault size lsn head) (sym (k ∙ e)) begin_no_memory
 memory-or-failed size lsn head (Err x) fault k (inr e) = subst (BeginFault size lsn head) (sym (k ∙ e)) begin_failed
+
+-- ---- each moment of calls that begin a log, and of those that write one again
+
+pub each-by : (size start : ℕ) (head : List ℕ) (calls : List FileCall) → BeginsBy size start head calls → AtEach (BeginsBy size start head) calls
+each-by size start head _ (wiping {calls = calls} w) = of-wipe calls w
+  where
+    of-wipe : (calls : List FileCall) → Wipes size calls → AtEach (BeginsBy size start head) calls
+    of-wipe _ nothing = wiping nothing
+    of-wipe _ (wrote good) = (wiping (wrote good), wiping nothing)
+    of-wipe _ was_unsynced = (wiping was_unsynced, (wiping (wrote true), wiping nothing))
+each-by size start head _ by_wiped = (by_wiped, (wiping (wrote true), wiping nothing))
+each-by size start head _ (by_wrote good fit room) = (by_wrote good fit room, (by_wiped, (wiping (wrote true), wiping nothing)))
+each-by size start head _ (by_synced good fit room) = (by_synced good fit room, (by_wrote true fit room, (by_wiped, (wiping (wrote true), wiping nothing))))

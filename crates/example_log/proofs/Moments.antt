@@ -123,3 +123,18 @@ never-spare (OfSpare call ∷ xs) e = absurd (cc)
 pub each-spare : (R : List FileCall → Type 0) (calls : List FileCall) → AtEach R calls → AtEach (λ so_far. R (spare_in so_far) × (pages_in so_far ≡ []) × (log_in so_far ≡ [])) (map OfSpare calls)
 each-spare R [] h = (h, refl, refl)
 each-spare R (call ∷ calls) h = let k = of-spare (call ∷ calls) in ((subst R (sym k.2) h.0, k.0, k.1), each-spare R calls h.1)
+
+-- at each moment the calls so far are the older ones of all
+pub each-of-log : (So : List Step → Type 0) (all : List FileCall) → ((later so_far : List FileCall) → all ≡ later ++ so_far → So (map OfLog so_far)) → AtEach So (map OfLog all)
+each-of-log So all f = go [] all refl
+  where
+    go : (later xs : List FileCall) → all ≡ later ++ xs → AtEach So (map OfLog xs)
+    go later [] e = f later [] e
+    go later (x ∷ xs) e = (f later (x ∷ xs) e, go (later ++ x ∷ []) xs (e ∙ sym (append_assoc later (x ∷ []) xs)))
+
+pub each-of-pages : (So : List Step → Type 0) (all : List DeviceCall) → ((later so_far : List DeviceCall) → all ≡ later ++ so_far → So (map OfPages so_far)) → AtEach So (map OfPages all)
+each-of-pages So all f = go [] all refl
+  where
+    go : (later xs : List DeviceCall) → all ≡ later ++ xs → AtEach So (map OfPages xs)
+    go later [] e = f later [] e
+    go later (x ∷ xs) e = (f later (x ∷ xs) e, go (later ++ x ∷ []) xs (e ∙ sym (append_assoc later (x ∷ []) xs)))

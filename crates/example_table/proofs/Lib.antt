@@ -7,3 +7,4 @@ pub mod Checkpoints
 pub mod Wholes
 pub mod Shut
 pub mod Sounding
+pub mod Stopping

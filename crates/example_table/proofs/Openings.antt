@@ -21,19 +21,24 @@ use Rattle.example_table.specs.declared.table.TableFault.{TableFault}
 use Rattle.example_log.specs.Commits.{AreCommits, HasCommits, changes_of, log_of, payload_of}
 use Rattle.example_log.specs.Disk.{DeviceCall, Did, Reads, Writes, Syncs, Honest, MayBring, MayLeave, Partly, sync_failed}
 use Rattle.bp_trail.specs.Lists.{some}
-use Rattle.example_log.specs.Files.{FileCall, FileLeaves, IsSettled, SettledLeaves, Unsure, failed, settles, synced, written}
+use Rattle.example_log.specs.Files.{FileCall, FileDid, FileLeaves, IsSettled, SettledLeaves, Unsure, failed, settles, synced, written}
 use Rattle.example_log.specs.Files.FileCall.{Read, Write, Sync}
 use Rattle.example_log.specs.Files.IsSettled.{settled as was_settled, again as settled_again, resynced as settled_synced}
 use Rattle.example_log.specs.Frames.{IsRecord, NoFrame, frame, frames}
 use Rattle.example_log.specs.Lives.{AreRecords, LogLife, Reopened, SameAt, TellsTrue}
 use Rattle.example_log.specs.Lives.Reopened.{ended}
-use Rattle.example_log.specs.LogFiles.{Begins, BeginsBy, IsUnread, Wipes, WipesFile}
+use Rattle.example_log.specs.LogFiles.{Begins, BeginsBy, IsLogFile, IsUnread, Settles, Wipes, WipesFile}
 use Rattle.example_log.specs.LogFiles.BeginsBy.{wiping as by_wiping, wiped as by_wiped, wrote as by_wrote, synced as by_synced}
 use Rattle.example_log.specs.Lives.LogLife.{wiped as was_wiped, appended, synced as was_synced, unsynced as not_synced}
-use Rattle.example_log.specs.Moments.{AtEach}
+use Rattle.example_log.specs.Moments.{AtEach, Made, Step, log_in, pages_in, spare_in}
+use Rattle.example_log.specs.Moments.Step.{OfPages, OfLog, OfSpare}
+use Rattle.example_log.proofs.Moments.{each-append, each-map, each-of-log, each-of-pages, each-spare, log-append, made-append, made-log, made-pages, made-spare, of-log, of-pages, of-spare, pages-append, spare-append}
+use Rattle.example_log.proofs.LogFiles.{each-by}
+use Rattle.example_table.specs.Opening.IsOpening.{settling, redoing as redoing_it, beginning as beginning_it}
+use Rattle.example_table.specs.Opening.MovesLog.{unsettled, stopped, moved}
 use Rattle.example_log.specs.LogFiles.IsUnread.{no_memory, failed as failed_read}
 use Rattle.example_log.specs.LogFiles.Wipes.{nothing, wrote, unsynced}
-use Rattle.example_table.specs.Opening.{AreWithin, Beginning, BeginsBefore, BeginsLog, CreatesLog, EmptiesFile, IsEmptied, FindsLog, Found, IsNewer, IsOnlyRead, MayBeOpened, MoveFault, Moves, MovesLog, Redid, again_of}
+use Rattle.example_table.specs.Opening.{AreWithin, Beginning, BeginsBefore, BeginsLog, CreatesLog, EmptiesFile, IsEmptied, FindsLog, Found, IsNewer, IsInOrder, IsOnlyRead, IsOpening, MayBeOpened, MoveFault, Moves, MovesLog, Redid, again_of}
 use Rattle.example_table.specs.Opening.Beginning.{wiping, begun as was_begun}
 use Rattle.example_log.specs.Promise.{MayBeRedone, Recovers}
 use Rattle.example_log.proofs.CommitsRead.{head-is, head-same, payload-same, whole-commits}
@@ -474,6 +479,102 @@ module _ {S P : Type 0} (reads writes : P → Transfer S) (syncs : P → StoreSy
   pub refused-as : (r : Result (Unit {0}) TableFault) (why : TableFault) → IsErrAnd r (λ e. e ≡ why) → Moved (Err why) → Moved r
   refused-as (Ok x) why k h = absurd k
   refused-as (Err e) why k h = subst (λ w. Moved (Err w)) (sym k) h
+
+-- an opening's calls, one part after the other
+module _ {S P : Type 0} (reads writes : P → Transfer S) (syncs : P → StoreSync S) (page_reads : Reads P) (page_writes : Writes P) (page_syncs : Syncs P) (device : Geometry) (table newer older : List ℕ) (old : P) (old_newer old_older new_newer : LogFile S) (f : Found device table newer older)
+    (calls : List FileCall) (good : Bool) (did : FileDid (reads old) (writes old) (syncs old) old_newer.store calls new_newer.store) (settled : Settles (again_of f.is_newer) calls good) where
+  abbrev Opening : List Step → Type 0
+  Opening = IsOpening device (again_of f.is_newer) table f.changes (f.last + 1) old_older.size
+
+  abbrev Ordered : P → LogFile S → Type 0
+  Ordered new new_older = IsInOrder reads writes syncs page_reads page_writes page_syncs device (again_of f.is_newer) table f.changes (f.last + 1) old new old_newer new_newer old_older new_older
+
+  settle-each : AtEach Opening (map OfLog calls)
+  settle-each = each-of-log Opening calls (λ later so_far e. settling later (of-log so_far).0 (of-log so_far).2 settled (e ∙ ap (λ (t : List FileCall). later ++ t) (sym (of-log so_far).1)))
+
+  settle-did : Made page_reads page_writes page_syncs reads writes syncs (record { port = old; log = old_newer.store; spare = old_older.store }) (map OfLog calls) (record { port = old; log = new_newer.store; spare = old_older.store })
+  settle-did = made-log page_reads page_writes page_syncs reads writes syncs old old_newer.store new_newer.store old_older.store calls did
+
+  settle-order : Ordered old old_older
+  settle-order = record { steps = map OfLog calls; did = settle-did; each = settle-each }
+
+  pub was-unsettled : good ≡ false → (why : TableFault) → MovesLog reads writes syncs page_reads page_writes page_syncs device table newer older old old_newer old_older (Err why) old new_newer old_older
+  unfolding settle-order
+  was-unsettled bad why = unsettled f why settle-order ((of-log calls).0, (of-log calls).2) (subst (λ (b : Bool). Settles (again_of f.is_newer) (log_in (map OfLog calls)) b) bad (subst (λ (cs : List FileCall). Settles (again_of f.is_newer) cs good) (sym (of-log calls).1) settled))
+
+  module _ (well : good ≡ true) (new : P) (done : Bool) (r : Redid page_reads page_writes page_syncs device f.changes old done new) where
+    abbrev redo_steps : List DeviceCall → List Step
+    redo_steps cs = map OfPages cs ++ map OfLog calls
+
+    pages-are : (cs : List DeviceCall) → pages_in (map OfPages cs ++ map OfLog calls) ≡ cs
+    pages-are cs = pages-append (map OfPages cs) (map OfLog calls) ∙ ap (λ (t : List DeviceCall). t ++ pages_in (map OfLog calls)) (of-pages cs).0 ∙ ap (λ (t : List DeviceCall). cs ++ t) (of-log calls).0 ∙ append-nil cs
+
+    log-are : (cs : List DeviceCall) → log_in (map OfPages cs ++ map OfLog calls) ≡ calls
+    log-are cs = log-append (map OfPages cs) (map OfLog calls) ∙ ap (λ (t : List FileCall). t ++ log_in (map OfLog calls)) (of-pages cs).1 ∙ (of-log calls).1
+
+    spare-are : (cs : List DeviceCall) → spare_in (map OfPages cs ++ map OfLog calls) ≡ []
+    spare-are cs = spare-append (map OfPages cs) (map OfLog calls) ∙ ap (λ (t : List FileCall). t ++ spare_in (map OfLog calls)) (of-pages cs).2 ∙ (of-log calls).2
+
+    whole-settled : (cs : List FileCall) → cs ≡ calls → Settles (again_of f.is_newer) cs true
+    whole-settled cs e = subst (λ (b : Bool). Settles (again_of f.is_newer) cs b) well (subst (λ (fs : List FileCall). Settles (again_of f.is_newer) fs good) (sym e) settled)
+
+    redo-each : AtEach (λ so_far. Opening (so_far ++ map OfLog calls)) (map OfPages r.calls)
+    redo-each =
+        each-of-pages (λ so_far. Opening (so_far ++ map OfLog calls)) r.calls
+        (λ later so_far e. redoing_it later (spare-are so_far) (whole-settled (log_in (map OfPages so_far ++ map OfLog calls)) (log-are so_far)) r.recovers (e ∙ ap (λ (t : List DeviceCall). later ++ t) (sym (pages-are so_far))))
+
+    redo-did : Made page_reads page_writes page_syncs reads writes syncs (record { port = old; log = old_newer.store; spare = old_older.store }) (map OfPages r.calls ++ map OfLog calls) (record { port = new; log = new_newer.store; spare = old_older.store })
+    redo-did =
+        made-append page_reads page_writes page_syncs reads writes syncs (record { port = old; log = old_newer.store; spare = old_older.store }) (record { port = old; log = new_newer.store; spare = old_older.store }) (record { port = new; log = new_newer.store; spare = old_older.store }) (map OfPages r.calls) (map OfLog calls)
+        settle-did (made-pages page_reads page_writes page_syncs reads writes syncs old new new_newer.store old_older.store r.calls r.did)
+
+    redo-order : Ordered new old_older
+    redo-order = record { steps = map OfPages r.calls ++ map OfLog calls; did = redo-did; each = each-append Opening (map OfPages r.calls) (map OfLog calls) settle-each redo-each }
+
+    pub was-stopped : (why : TableFault) → MovesLog reads writes syncs page_reads page_writes page_syncs device table newer older old old_newer old_older (Err why) new new_newer old_older
+    unfolding redo-order
+    was-stopped why =
+        stopped f done why redo-order (spare-are r.calls) (whole-settled (log_in (map OfPages r.calls ++ map OfLog calls)) (log-are r.calls))
+        (subst (λ (cs : List DeviceCall). Recovers device.pages device.size 0 (reverse f.changes) cs done) (sym (pages-are r.calls)) r.recovers)
+
+    module _ (all_done : done ≡ true) (new_older : LogFile S) (is_begun : Bool) (b : Begins (reads new) (writes new) (syncs new) old_older new_older (f.last + 1) table is_begun) where
+      abbrev since : List Step
+      since = map OfPages r.calls ++ map OfLog calls
+
+      whole-redone : (cs : List DeviceCall) → cs ≡ r.calls → Recovers device.pages device.size 0 (reverse f.changes) cs true
+      whole-redone cs e = subst (λ (d : Bool). Recovers device.pages device.size 0 (reverse f.changes) cs d) all_done (subst (λ (xs : List DeviceCall). Recovers device.pages device.size 0 (reverse f.changes) xs done) (sym e) r.recovers)
+
+      pages-then : (so_far : List Step) → pages_in so_far ≡ [] → pages_in (so_far ++ since) ≡ r.calls
+      pages-then so_far none = pages-append so_far since ∙ ap (λ (t : List DeviceCall). t ++ pages_in since) none ∙ pages-are r.calls
+
+      log-then : (so_far : List Step) → log_in so_far ≡ [] → log_in (so_far ++ since) ≡ calls
+      log-then so_far none = log-append so_far since ∙ ap (λ (t : List FileCall). t ++ log_in since) none ∙ log-are r.calls
+
+      spare-then : (so_far : List Step) → spare_in (so_far ++ since) ≡ spare_in so_far
+      spare-then so_far = spare-append so_far since ∙ ap (λ (t : List FileCall). spare_in so_far ++ t) (spare-are r.calls) ∙ append-nil (spare_in so_far)
+
+      begin-each : AtEach (λ so_far. Opening (so_far ++ since)) (map OfSpare b.calls)
+      begin-each =
+          each-map (λ so_far. BeginsBy old_older.size (f.last + 1) table (spare_in so_far) × (pages_in so_far ≡ []) × (log_in so_far ≡ [])) (λ so_far. Opening (so_far ++ since))
+          (λ so_far s. beginning_it (whole-settled (log_in (so_far ++ since)) (log-then so_far s.2)) (whole-redone (pages_in (so_far ++ since)) (pages-then so_far s.1)) (subst (BeginsBy old_older.size (f.last + 1) table) (sym (spare-then so_far)) s.0))
+          (map OfSpare b.calls) (each-spare (BeginsBy old_older.size (f.last + 1) table) b.calls (each-by old_older.size (f.last + 1) table b.calls b.by))
+
+      begin-order : Ordered new new_older
+      begin-order = record {
+        steps = map OfSpare b.calls ++ since;
+        did =
+            made-append page_reads page_writes page_syncs reads writes syncs (record { port = old; log = old_newer.store; spare = old_older.store }) (record { port = new; log = new_newer.store; spare = old_older.store }) (record { port = new; log = new_newer.store; spare = new_older.store }) (map OfSpare b.calls) since
+            redo-did (made-spare page_reads page_writes page_syncs reads writes syncs new new_newer.store old_older.store new_older.store b.calls b.did);
+        each = each-append Opening (map OfSpare b.calls) since (each-append Opening (map OfPages r.calls) (map OfLog calls) settle-each redo-each) begin-each;
+      }
+
+      pub was-moved : (result : Result (Unit {0}) TableFault) → is_ok result ≡ is_begun → MovesLog reads writes syncs page_reads page_writes page_syncs device table newer older old old_newer old_older result new new_newer new_older
+      unfolding begin-order
+      was-moved result told =
+          let none : spare_in (map OfSpare b.calls ++ since) ≡ b.calls = spare-then (map OfSpare b.calls) ∙ (of-spare b.calls).2 in
+          moved f result begin-order (whole-settled (log_in (map OfSpare b.calls ++ since)) (log-then (map OfSpare b.calls) (of-spare b.calls).1)) (whole-redone (pages_in (map OfSpare b.calls ++ since)) (pages-then (map OfSpare b.calls) (of-spare b.calls).0))
+          (subst (BeginsBy old_older.size (f.last + 1) table) (sym none) b.by)
+          (λ ok file before well long size. subst (λ (fs : List FileCall). IsLogFile file (f.last + 1) (fs ++ before) (table ∷ []) 1 new_older) (sym none) (b.is (sym told ∙ ok) file before well long size))
 
 module _ {S : Type 0} (reads writes : Transfer S) (syncs : StoreSync S) (old new : LogFile S) where
   pub was-unread : (why : LogFault) → IsUnread reads old.store new.store why → IsOnlyRead reads writes syncs old new
