@@ -12,7 +12,7 @@ use Rattle.example_table.specs.declared.table.TableFault.TheVariants.{Log, Pages
 use Rattle.bp_page.specs.declared.refusals.Refusal.TheVariants.{OutOfPage}
 use Rattle.example_log.specs.Heads.{OtherHead, ReadFault}
 use Rattle.example_log.specs.Commits.{HasCommits, log_of}
-use Rattle.example_log.specs.Disk.{DeviceCall, Reads, Writes, Syncs, Did}
+use Rattle.example_log.specs.Disk.{Reads, Writes, Syncs}
 use Rattle.example_log.specs.Files.{FileCall, FileDid, FileLeaves, failed, synced, written}
 use Rattle.example_log.specs.Frames.{IsRecord, NoFrame, frame}
 use Rattle.example_log.specs.Lives.{LogLife, Reopened, whole}
@@ -64,13 +64,6 @@ pub record Found (device : Geometry) (table newer older : List ℕ) : Type 0 whe
   pub same_head : (lsn : ℕ) (payload rest : List ℕ) → IsRecord lsn payload
       → older ≡ frame lsn payload ++ rest → payload ≡ table
 
--- these were redone; or some pages of them
-pub record Redid {P : Type 0} (reads : Reads P) (writes : Writes P) (syncs : Syncs P)
-    (device : Geometry) (changes : List LogRecord) (old : P) (done : Bool) (new : P) : Type 0 where
-  pub calls : List DeviceCall
-  pub did : Did reads writes syncs old calls new
-  pub recovers : Recovers device.pages device.size 0 (reverse changes) calls done
-
 -- ---- what is done with the files
 
 -- the file of the newer log as it is written again, before any page is: its records, and zeros
@@ -121,9 +114,8 @@ pub data IsOpening (device : Geometry) (again table : List ℕ) (changes : List 
   settling : {all : List FileCall} {good : Bool} (later : List FileCall) → pages_in so_far ≡ [] → spare_in so_far ≡ []
       → Settles again all good → all ≡ later ++ log_in so_far
       → IsOpening device again table changes next size so_far
-  redoing : {all : List DeviceCall} {done : Bool} (later : List DeviceCall) → spare_in so_far ≡ []
-      → Settles again (log_in so_far) true
-      → Recovers device.pages device.size 0 (reverse changes) all done → all ≡ later ++ pages_in so_far
+  redoing : spare_in so_far ≡ [] → Settles again (log_in so_far) true
+      → Recovers device.pages device.size 0 (reverse changes) (pages_in so_far) false
       → IsOpening device again table changes next size so_far
   beginning : Settles again (log_in so_far) true
       → Recovers device.pages device.size 0 (reverse changes) (pages_in so_far) true
