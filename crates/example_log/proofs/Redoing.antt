@@ -1,5 +1,5 @@
 -- Why redo may be cut off at any moment, and what it leaves when it is done.
-use Rattle.std.proofs.Common.{◌≡◌, ◌≢◌, inl, inr, refl, sym, ap, subst, ◌∙◌, ℕ, ◌+◌, ◌<◌, ◌≤◌, Bool, true, false, not, ◌&&◌, ◌==◌, List, [], ◌∷◌, ◌++◌, length, arith, length-append}
+use Rattle.std.proofs.Common.{◌≡◌, ◌≢◌, inl, inr, refl, sym, ap, subst, ◌∙◌, ℕ, ◌+◌, ◌<◌, ◌≤◌, Bool, true, false, not, ◌&&◌, ◌||◌, true≢false, ◌==◌, List, [], ◌∷◌, ◌++◌, length, arith, length-append}
 use Rattle.std.specs.Prelude.{Result, Ok, Err}
 use Rattle.std.specs.Bool.{MatchBool}
 use Rattle.std.specs.Result.{IsErr, is_ok}
@@ -11,7 +11,7 @@ use Rattle.bp_trail.specs.Lists.{some}
 use Rattle.bp_trail.specs.Recovery.{AllFit, HasFullImage, put, redo, records_from}
 use Rattle.bp_trail.proofs.Bytes.{length-put}
 use Rattle.bp_trail.proofs.Crashes.{redo-cut_off, redo-whole}
-use Rattle.example_log.specs.Disk.{DeviceCall, Partly, MayBring, MayLeave, Honest, sync_failed, Reads, Writes, Syncs, Did}
+use Rattle.example_log.specs.Disk.{DeviceCall, Partly, MayBring, MayLeave, Honest, is_good_sync, sync_failed, Reads, Writes, Syncs, Did}
 use Rattle.example_log.specs.Disk.DeviceCall.{Read, NotRead, Write, Sync}
 use Rattle.example_log.specs.Moments.{AtEach}
 use Rattle.example_log.proofs.Moments.{each-append}
@@ -338,6 +338,7 @@ module _ {P : Type 0} (reads : Reads P) (writes : Writes P) (syncs : Syncs P) (s
         (
           subst (λ b. Recovers pages size from log (step.0 ++ before.0) b) (err-false r e) (stopped-at pages size from log p step.0 before.0 before.2 at),
           each-append (λ so_far. Recovers pages size from log so_far false) step.0 before.0 (each-recovers pages size from log p before.0 before.2) (step-each pages size from log p before.0 before.2 step.0 false at),
+          λ yes. absurd (true≢false (sym yes ∙ sym (err-false r e))),
         ),
       )
 
@@ -349,6 +350,7 @@ module _ {P : Type 0} (reads : Reads P) (writes : Writes P) (syncs : Syncs P) (s
     (
       last good (subst (λ k. RedoesEach size from log k before.0) here before.2),
       (then-synced pages size from log good n before.0 before.2, each-recovers pages size from log n before.0 before.2),
+      λ yes. ap (λ (b : Bool). b || some is_good_sync before.0) yes,
     ),
   )
     where

@@ -19,7 +19,7 @@ use Rattle.bp_trail.specs.Recovery.{put, wanted as wants}
 use Rattle.example_log.specs.declared.log.LogFile.{LogFile}
 use Rattle.example_table.specs.declared.table.TableFault.{TableFault}
 use Rattle.example_log.specs.Commits.{AreCommits, HasCommits, changes_of, log_of, payload_of}
-use Rattle.example_log.specs.Disk.{DeviceCall, Did, Reads, Writes, Syncs, Honest, MayBring, MayLeave, Partly, sync_failed}
+use Rattle.example_log.specs.Disk.{DeviceCall, Did, Reads, Writes, Syncs, Honest, MayBring, MayLeave, Partly, is_good_sync, sync_failed}
 use Rattle.bp_trail.specs.Lists.{some}
 use Rattle.example_log.specs.Files.{FileCall, FileDid, FileLeaves, IsSettled, SettledLeaves, Unsure, failed, settles, synced, written}
 use Rattle.example_log.specs.Files.FileCall.{Read, Write, Sync}
@@ -572,7 +572,7 @@ module _ {S P : Type 0} (reads writes : P → Transfer S) (syncs : P → StoreSy
       begin-each : AtEach (λ so_far. Opening (so_far ++ since)) (map OfSpare b.calls)
       begin-each =
           each-map (λ so_far. BeginsBy old_older.size (f.last + 1) table (spare_in so_far) × (pages_in so_far ≡ []) × (log_in so_far ≡ [])) (λ so_far. Opening (so_far ++ since))
-          (λ so_far s. beginning_it (whole-settled (log_in (so_far ++ since)) (log-then so_far s.2)) (whole-redone (pages_in (so_far ++ since)) (pages-then so_far s.1)) (subst (BeginsBy old_older.size (f.last + 1) table) (sym (spare-then so_far)) s.0))
+          (λ so_far s. beginning_it (whole-settled (log_in (so_far ++ since)) (log-then so_far s.2)) (whole-redone (pages_in (so_far ++ since)) (pages-then so_far s.1)) (ap (some is_good_sync) (pages-then so_far s.1) ∙ r.recovers.2 all_done) (subst (BeginsBy old_older.size (f.last + 1) table) (sym (spare-then so_far)) s.0))
           (map OfSpare b.calls) (each-spare (BeginsBy old_older.size (f.last + 1) table) b.calls (each-by old_older.size (f.last + 1) table b.calls b.by))
 
       begin-order : Ordered new new_older

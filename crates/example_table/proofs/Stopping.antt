@@ -65,7 +65,7 @@ moving-mended c tears first left table file other_file bytes other cut start cal
     go : (begun : List FileCall) → begun ≡ [] → TellsTrue (start + 1 + length commits) (synced_bytes other_file (begun ++ before)) (written_bytes other_file (begun ++ before)) other → BeginsBefore start other
     go [] e tells = λ lsn payload rest fit is. stood other_file before long start below_synced below_written [] (start + 1 + length commits) other nothing tells lsn payload rest fit is
     go (x ∷ begun) e tells = absurd (cc)
-moving-mended c tears first left table file other_file bytes other cut start calls log_calls before commits records found last changes so_far (moving {alive = alive} {past = past} ran saved beginning) honestly sized file_left tells long below_synced below_written other_left other_tells leaves finds =
+moving-mended c tears first left table file other_file bytes other cut start calls log_calls before commits records found last changes so_far (moving {alive = alive} {past = past} ran saved pages_synced beginning) honestly sized file_left tells long below_synced below_written other_left other_tells leaves finds =
     inr (may-be-opened c tears first left table file other_file bytes other cut start alive past (pages_in so_far ++ calls) (log_in so_far ++ log_calls) (log_in so_far ++ log_calls) before (spare_in so_far ++ before) commits (log_of table commits) (1 + length commits) ran saved ended honestly sized file_left tells long below_synced below_written beginning other_left other_tells leaves
     (all-sound c table cut file start alive past past (pages_in so_far ++ calls) (log_in so_far ++ log_calls) commits (1 + length commits) [] ran tears (omega arith))
     (λ p. inr (all-shut c table cut file start alive past past (pages_in so_far ++ calls) (log_in so_far ++ log_calls) commits (1 + length commits) [] ran refl saved p)) found last changes finds)
@@ -92,7 +92,7 @@ opening-mended tears device wanted seen first left table newer older newer_file 
     go : (begins : List FileCall) → begins ≡ [] → TellsTrue (last + 1) (synced_bytes file (begins ++ before)) (written_bytes file (begins ++ before)) left_older → BeginsBefore begun left_older
     go [] e tells = λ lsn payload rest fit at. stood file before long begun below_synced below_written [] (last + 1) left_older nothing tells lsn payload rest fit at
     go (x ∷ begins) e tells = absurd (cc)
-opening-mended tears device wanted seen first left table newer older newer_file file left_newer left_older begun last changes newer_before before so_far is (beginning_it settles recovers by) within m k honest leaves size newer_long newer_left well long below_synced below_written older_left tells =
+opening-mended tears device wanted seen first left table newer older newer_file file left_newer left_older begun last changes newer_before before so_far is (beginning_it settles recovers pages_synced by) within m k honest leaves size newer_long newer_left well long below_synced below_written older_left tells =
     inr (beginning tears device.pages device.size wanted seen first left table newer older left_newer begun last changes is
     (record { first = newer_file; calls = log_in so_far ++ newer_before; long = size; settled = settled-all (again_of is) (log_in so_far) true settles refl newer_file newer_before newer_long; leaves = newer_left }) m k
     (pages_in so_far) within honest recovers leaves file left_older before (spare_in so_far ++ before) long below_synced below_written

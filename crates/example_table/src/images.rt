@@ -130,8 +130,8 @@ impl<S: LogStore<P>, P: Port> Table<S, P> {
             self.old.pool self.new.pool self.old.log self.new.log table cut file start calls
             log_calls commits records
             (λ after n left. (after ≡ commits) × (left ≡ [])))
-            × IfOk result (λ made. IsWhole self.old.pool.core.parameters.size ((pages_in g.steps) ++ calls)
-            (reverse (changes_of (cut.commits ++ commits))) change.now made) }
+            × IfOk result (λ made. IsWhole self.old.pool.core.parameters.size
+            (pages_in g.steps ++ calls) (reverse (changes_of (cut.commits ++ commits))) change.now made) }
         ensures kept { KeepsMarks self.old self.new }
         ensures passes { GivesBack self.old.pool self.new.pool }
     {
@@ -159,9 +159,9 @@ impl<S: LogStore<P>, P: Port> Table<S, P> {
             self.old.pool self.new.pool self.old.log self.new.log table cut file start calls
             log_calls commits records
             (λ after n left. (after ≡ commits) × (left ≡ [])))
-            × IfOk result (λ made. AreWhole self.old.pool.core.parameters.size ((pages_in g.steps) ++ calls)
-            (reverse (changes_of (cut.commits ++ commits))) (reverse (changes_of commits)) changes.now
-            made.items) }
+            × IfOk result (λ made. AreWhole self.old.pool.core.parameters.size
+            (pages_in g.steps ++ calls) (reverse (changes_of (cut.commits ++ commits)))
+            (reverse (changes_of commits)) changes.now made.items) }
         ensures kept { KeepsMarks self.old self.new }
         ensures passes { GivesBack self.old.pool self.new.pool }
     {
