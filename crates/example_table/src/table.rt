@@ -330,9 +330,9 @@ impl<S: LogStore<P>, P: Port> Table<S, P> {
             log_calls commits records
             (λ after n left. (self.new.is_ended ≡ false → left ≡ [])
             × AreImaged self.new.imaged.items (reverse (changes_of after))))
-            × LeavesCommit cut calls commits (start + 1 + length commits) changes.now
-            self.new.is_ended
-            result (pages_in g.steps) g.commits }
+            × LeavesCommit self.old.pool.core.parameters.size cut calls commits
+            (start + 1 + length commits) changes.now self.new.is_ended result
+            (pages_in g.steps) g.commits }
         ensures passes { GivesBack self.old.pool self.new.pool }
     {
         if self.is_ended || self.log.is_ended {
