@@ -2,6 +2,7 @@ pub mod Firsts
 pub mod Framing
 pub mod Lives
 pub mod LogFiles
+pub mod Moments
 pub mod CommitsRead
 pub mod Redoing
 pub mod Pools

@@ -1,16 +1,18 @@
 -- What the calls of a log in a file add to its life.
-use Rattle.std.proofs.Common.{◌≡◌, inl, inr, ℕ, ◌+◌, ◌^◌, ◌<◌, ◌≤◌, Bool, true, false, not, List, [], ◌∷◌, ◌++◌, length, replicate, refl, sym, ap, subst, ◌∙◌, append_assoc, arith, length-append}
+use Rattle.std.proofs.Common.{◌≡◌, inl, inr, ℕ, ◌+◌, ◌^◌, ◌<◌, ◌≤◌, Bool, true, false, not, List, [], ◌∷◌, ◌++◌, length, replicate, refl, sym, ap, subst, ◌∙◌, arith, length-append}
 use Rattle.std.proofs.lemmas.List.{length_push}
 use Rattle.std.specs.Prelude.{◌⊎◌, Result, Ok, Err, IfOk, IfErr, IsErrAnd, OnErr}
 use Rattle.std.specs.Result.{IsErr, is_ok}
 use Rattle.bp_ports.specs.Files.{Transfer, StoreSync}
 use Rattle.example_log.specs.declared.log.LogFile.{LogFile}
-use Rattle.example_log.specs.Frames.{frame, frames}
-use Rattle.example_log.specs.Files.{FileCall, FileDid, failed, written}
+use Rattle.example_log.specs.Frames.{frame, frames, IsRecord}
+use Rattle.example_log.specs.Files.{FileCall, FileDid, failed as has_failed, written}
 use Rattle.example_log.specs.Files.FileCall.{Write, Again, Sync}
 use Rattle.example_log.specs.Lives.{LogLife}
-use Rattle.example_log.specs.Lives.LogLife.{wiped, appended, synced as was_synced, unsynced, closed}
-use Rattle.example_log.specs.LogFiles.{AppendFault, BeginFault, IsLogFile, GoesOn, Begins, Settles, Wipes, WipesFile}
+use Rattle.example_log.specs.Moments.{AtEach}
+use Rattle.example_log.specs.Lives.LogLife.{wiped as was_wiped, appended, synced as was_synced, unsynced, closed}
+use Rattle.example_log.specs.LogFiles.{AppendFault, BeginFault, BeginsBy, HasRoom, IsLogFile, GoesOn, Begins, Settles, WipesFile, Wipes}
+use Rattle.example_log.specs.LogFiles.BeginsBy.{wiping, wiped as by_wiped, wrote as by_wrote, synced as by_synced}
 use Rattle.example_log.specs.LogFiles.AppendFault.{has_ended, no_memory, no_lsn, no_room, failed as append_failed}
 use Rattle.example_log.specs.LogFiles.BeginFault.{no_memory as begin_no_memory, failed as begin_failed, no_lsn as begin_no_lsn, no_room as begin_no_room}
 use Rattle.example_log.specs.LogFiles.Settles.{nothing as settles_nothing, unwritten as settles_unwritten, synced as settles_synced}
@@ -39,7 +41,7 @@ file-did-append reads writes syncs a b c (call ∷ newer) older h k = (k.0, file
 module _ {S : Type 0} (reads writes : Transfer S) (syncs : StoreSync S) where
   pub weaken : (old new : LogFile S) (first : List ℕ) (start : ℕ) (calls : List FileCall) (P Q : List (List ℕ) → ℕ → Type 0)
       → ((log : List (List ℕ)) (durable : ℕ) → P log durable → Q log durable) → GoesOn reads writes syncs old new first start calls P → GoesOn reads writes syncs old new first start calls Q
-  weaken old new first start calls P Q f g = record { more = g.more; log = g.log; durable = g.durable; did = g.did; is = g.is; is_so = f g.log g.durable g.is_so }
+  weaken old new first start calls P Q f g = record { more = g.more; log = g.log; durable = g.durable; one = g.one; did = g.did; is = g.is; is_so = f g.log g.durable g.is_so }
 
   -- a log that is ended
   pub closes : (old new : LogFile S) (first : List ℕ) (start : ℕ) (calls : List FileCall) (P : List (List ℕ) → ℕ → Type 0) → GoesOn reads writes syncs old new first start calls P
@@ -48,6 +50,7 @@ module _ {S : Type 0} (reads writes : Transfer S) (syncs : StoreSync S) where
     more = g.more;
     log = g.log;
     durable = g.durable;
+    one = g.one;
     did = g.did;
     is = record { life = ends new.is_ended g.is.life; positive = g.is.positive; size = g.is.size; end = λ no. absurd (cc); next = λ no. absurd (cc) };
     is_so = g.is_so;
@@ -57,20 +60,9 @@ module _ {S : Type 0} (reads writes : Transfer S) (syncs : StoreSync S) where
       ends true life = life
       ends false life = closed life
 
-  pub then : (old mid new : LogFile S) (first : List ℕ) (start : ℕ) (calls : List FileCall) (P Q : List (List ℕ) → ℕ → Type 0)
-      → (g : GoesOn reads writes syncs old mid first start calls P) → GoesOn reads writes syncs mid new first start (g.more ++ calls) Q → GoesOn reads writes syncs old new first start calls Q
-  then old mid new first start calls P Q g h = record {
-    more = h.more ++ g.more;
-    log = h.log;
-    durable = h.durable;
-    did = file-did-append reads writes syncs old.store mid.store new.store h.more g.more g.did h.did;
-    is = subst (λ (cs : List FileCall). IsLogFile first start cs h.log h.durable new) (sym (append_assoc h.more g.more calls)) h.is;
-    is_so = h.is_so;
-  }
-
   module _ (first : List ℕ) (start durable : ℕ) (calls : List FileCall) (log : List (List ℕ)) (old : LogFile S) (is : IsLogFile first start calls log durable old) where
     pub stays : (P : List (List ℕ) → ℕ → Type 0) → P log durable → GoesOn reads writes syncs old old first start calls P
-    stays P p = record { more = []; log = log; durable = durable; did = refl; is = is; is_so = p }
+    stays P p = record { more = []; log = log; durable = durable; one = omega arith; did = refl; is = is; is_so = p }
 
     alive : old.is_ended ≡ false → LogLife first start true calls log durable
     alive e = subst (λ (b : Bool). LogLife first start b calls log durable) (ap not e) is.life
@@ -95,6 +87,7 @@ module _ {S : Type 0} (reads writes : Transfer S) (syncs : StoreSync S) where
           more = Write (length (frames start log)) (frame (start + length log) payload) good ∷ [];
           log = log ++ payload ∷ [];
           durable = durable;
+          one = omega arith;
           did = (old.store, refl, call);
           is = record {
             life = subst (λ (b : Bool). LogLife first start b (Write (length (frames start log)) (frame (start + length log) payload) good ∷ calls) (log ++ payload ∷ []) durable) (sym ended) lived;
@@ -112,6 +105,7 @@ module _ {S : Type 0} (reads writes : Transfer S) (syncs : StoreSync S) where
       more = Sync true ∷ [];
       log = log;
       durable = length log;
+      one = omega arith;
       did = (old.store, refl, gave);
       is = record {
         life = subst (λ (b : Bool). LogLife first start b (Sync true ∷ calls) log (length log)) (sym (ap not (ended ∙ e))) (was_synced (alive e));
@@ -129,6 +123,7 @@ module _ {S : Type 0} (reads writes : Transfer S) (syncs : StoreSync S) where
       more = Sync false ∷ [];
       log = log;
       durable = durable;
+      one = omega arith;
       did = (old.store, refl, gave);
       is = record {
         life = subst (λ (b : Bool). LogLife first start b (Sync false ∷ calls) log durable) (sym (ap not ended)) (unsynced (alive e));
@@ -142,61 +137,82 @@ module _ {S : Type 0} (reads writes : Transfer S) (syncs : StoreSync S) where
 
   -- ---- a log that is begun
 
-  module _ (first head : List ℕ) (start : ℕ) (before : List FileCall) (good : failed before ≡ false) (long : length (written first before) ≡ length first) where
-    pub wipes : (old wiped_file : LogFile S) → 1 ≤ start → old.size ≡ length first → WipesFile reads writes syncs old.size old.store true wiped_file.store
-        → wiped_file.is_ended ≡ false → wiped_file.size ≡ old.size → wiped_file.end ≡ 0 → wiped_file.next ≡ start
-        → GoesOn reads writes syncs old wiped_file first start before (λ log durable. (log ≡ []) × (durable ≡ 0))
-    wipes old new positive size w alive same end next =
-        let lived : LogLife first start true (Sync true ∷ Write 0 (replicate (length first) 0) true ∷ before) [] 0 = wiped good long in
-        record {
-          more = Sync true ∷ Write 0 (replicate (length first) 0) true ∷ [];
-          log = [];
-          durable = 0;
-          did = (w.0, (old.store, refl, subst (λ (n : ℕ). writes old.store 0 (replicate n 0) true w.0) size w.1), w.2);
-          is = record {
-            life = subst (λ (b : Bool). LogLife first start b (Sync true ∷ Write 0 (replicate (length first) 0) true ∷ before) [] 0) (sym (ap not alive)) lived;
-            positive = positive;
-            size = same ∙ size;
-            end = λ a. end;
-            next = λ a. (let e : start ≡ start + 0 = omega arith in next ∙ e);
-          };
-          is_so = (refl, refl);
+  module _ (old : LogFile S) (start : ℕ) (head : List ℕ) where
+    abbrev Begun : LogFile S → Bool → Type 0
+    Begun new good = Begins reads writes syncs old new start head good
+
+    pub wiped-not : (new : LogFile S) → WipesFile reads writes syncs old.size old.store false new.store → Begun new false
+    wiped-not new w = record { calls = w.0; did = w.1; by = wiping w.2; is = λ e. absurd (cc) }
+
+    -- the file as it is once it is wiped
+    module _ (store : S) (size_now : ℕ) (as_before : size_now ≡ old.size) (w : WipesFile reads writes syncs old.size old.store true store) (positive : 1 ≤ start) (short : length head < 2 ^ 64) where
+      abbrev empty : LogFile S
+      empty = record { store = store; size = size_now; end = 0; next = start; is_ended = false }
+
+      abbrev wiped_calls : ℕ → List FileCall
+      wiped_calls size = Sync true ∷ Write 0 (replicate size 0) true ∷ []
+
+      did-wipe : FileDid reads writes syncs old.store (wiped_calls old.size) store
+      did-wipe = (w.0, (old.store, refl, w.1), w.2)
+
+      pub empty-is : (first : List ℕ) (before : List FileCall) → has_failed before ≡ false → length (written first before) ≡ length first → old.size ≡ length first
+          → IsLogFile first start (wiped_calls (length first) ++ before) [] 0 empty
+      empty-is first before good long size = record { life = was_wiped good long; positive = positive; size = as_before ∙ size; end = λ a. refl; next = λ a. omega arith }
+
+      unbegun : (new : LogFile S) → new.store ≡ store → Begun new false
+      unbegun new same = record { calls = wiped_calls old.size; did = subst (λ x. FileDid reads writes syncs old.store (wiped_calls old.size) x) (sym same) did-wipe; by = by_wiped; is = λ e. absurd (cc) }
+
+      is-record : HasRoom empty head → IsRecord start head
+      is-record room = let n = room.lsn in record { positive = positive; fits = omega arith; size = short }
+
+      has-room : HasRoom empty head → length (frame start head) ≤ old.size
+      has-room room = let n = room.room in omega arith
+
+      -- the first record was not appended
+      pub unappended : (new : LogFile S) (fault : LogFault) → AppendFault writes empty head new fault → Begun (record { store = new.store; size = new.size; end = new.end; next = new.next; is_ended = true }) false
+      unappended new _ (has_ended e same) = absurd (cc)
+      unappended new _ (no_memory e same) = unbegun _ (ap (λ (f : LogFile S). f.store) same)
+      unappended new _ (no_lsn e le same) = unbegun _ (ap (λ (f : LogFile S). f.store) same)
+      unappended new _ (no_room e lt same) = unbegun _ (ap (λ (f : LogFile S). f.store) same)
+      unappended new _ (append_failed room ended gave) = record { calls = Write 0 (frame start head) false ∷ wiped_calls old.size; did = (store, did-wipe, gave); by = by_wrote false (is-record room) (has-room room); is = λ e. absurd (cc) }
+
+      -- it was appended, and synced or not
+      module _ (mid : LogFile S) (room : HasRoom empty head) (gave : writes store 0 (frame start head) true mid.store) where
+        begun_calls : Bool → List FileCall
+        begun_calls good = Sync good ∷ Write 0 (frame start head) true ∷ wiped_calls old.size
+
+        did-begin : (good : Bool) (new : LogFile S) → syncs mid.store good new.store → FileDid reads writes syncs old.store (Sync good ∷ Write 0 (frame start head) true ∷ wiped_calls old.size) new.store
+        did-begin good new synced = (mid.store, (store, did-wipe, gave), synced)
+
+        pub begun-unsynced : (new : LogFile S) → syncs mid.store false new.store → Begun new false
+        begun-unsynced new synced = record { calls = Sync false ∷ Write 0 (frame start head) true ∷ wiped_calls old.size; did = did-begin false new synced; by = by_synced false (is-record room) (has-room room); is = λ e. absurd (cc) }
+
+        life : (first : List ℕ) (before : List FileCall) → has_failed before ≡ false → length (written first before) ≡ length first → old.size ≡ length first
+            → LogLife first start true (Sync true ∷ Write 0 (frame start head) true ∷ (wiped_calls old.size ++ before)) (head ∷ []) 1
+        life first before good long size =
+            let e : start ≡ start + 0 = omega arith in
+            let fits : length (frame start head) ≤ length first = (let h = has-room room in omega arith) in
+            let from : LogLife first start true (Write 0 (frame (start + 0) head) true ∷ (wiped_calls (length first) ++ before)) (head ∷ []) 0 =
+            appended head true (was_wiped good long) (subst (λ (n : ℕ). IsRecord n head) e (is-record room)) (subst (λ (n : ℕ). 0 + length (frame n head) ≤ length first) e (omega arith)) in
+            was_synced (subst (λ (n : ℕ). LogLife first start true (Write 0 (frame start head) true ∷ (wiped_calls n ++ before)) (head ∷ []) 0) (sym size)
+            (subst (λ (n : ℕ). LogLife first start true (Write 0 (frame n head) true ∷ (wiped_calls (length first) ++ before)) (head ∷ []) 0) (sym e) from))
+
+        pub begun : (new : LogFile S) → syncs mid.store true new.store → new.is_ended ≡ false → new.size ≡ old.size → new.end ≡ mid.end → new.next ≡ mid.next → mid.is_ended ≡ false
+            → ((first : List ℕ) (calls : List FileCall) → IsLogFile first start calls [] 0 empty → GoesOn reads writes syncs empty mid first start calls (λ log durable. log ≡ head ∷ []))
+            → Begun new true
+        begun new synced alive same end next there goes = record {
+          calls = Sync true ∷ Write 0 (frame start head) true ∷ wiped_calls old.size;
+          did = did-begin true new synced;
+          by = by_synced true (is-record room) (has-room room);
+          is = λ e first before good long size.
+              (let g = goes first (wiped_calls (length first) ++ before) (empty-is first before good long size) in record {
+                life = subst (λ (b : Bool). LogLife first start b (Sync true ∷ Write 0 (frame start head) true ∷ (wiped_calls old.size ++ before)) (head ∷ []) 1) (sym (ap not alive)) (life first before good long size);
+                positive = positive;
+                size = same ∙ size;
+                end = λ a. end ∙ g.is.end there ∙ ap (λ (l : List (List ℕ)). length (frames start l)) g.is_so;
+                next = λ a. next ∙ g.is.next there ∙ ap (λ (l : List (List ℕ)). start + length l) g.is_so;
+              });
         }
-
-    pub wiped-not : (old new : LogFile S) → old.size ≡ length first → WipesFile reads writes syncs old.size old.store false new.store → new.is_ended ≡ true → Begins reads writes syncs old new first start before head false
-    wiped-not old new size w ended = inl (w.0, w.1, subst (λ (n : ℕ). Wipes n w.0) size w.2, ended)
-
-    -- the first record was appended, and synced
-    module _ (old s4 s5 : LogFile S) (w : GoesOn reads writes syncs old s4 first start before (λ log durable. (log ≡ []) × (durable ≡ 0))) where
-      pub begun-not : (P : List (List ℕ) → ℕ → Type 0) → GoesOn reads writes syncs s4 s5 first start (w.more ++ before) (λ log durable. (durable ≡ w.durable) × P log durable × ((log ≡ w.log) ⊎ (log ≡ w.log ++ head ∷ [])))
-          → Begins reads writes syncs old s5 first start before head false
-      begun-not P h =
-          inr (then old s4 s5 first start before (λ log durable. (log ≡ []) × (durable ≡ 0)) (λ log durable. ((log ≡ []) ⊎ (log ≡ head ∷ [])) × (durable ≡ 0)) w
-          (weaken s4 s5 first start (w.more ++ before) (λ log durable. (durable ≡ w.durable) × P log durable × ((log ≡ w.log) ⊎ (log ≡ w.log ++ head ∷ []))) (λ log durable. ((log ≡ []) ⊎ (log ≡ head ∷ [])) × (durable ≡ 0))
-          (λ log durable p. (which log p.2, p.0 ∙ w.is_so.1)) h))
-        where
-          which : (log : List (List ℕ)) → (log ≡ w.log) ⊎ (log ≡ w.log ++ head ∷ []) → (log ≡ []) ⊎ (log ≡ head ∷ [])
-          which log (inl e) = inl (e ∙ w.is_so.0)
-          which log (inr e) = inr (e ∙ ap (λ (t : List (List ℕ)). t ++ head ∷ []) w.is_so.0)
-
-      module _ (h : GoesOn reads writes syncs s4 s5 first start (w.more ++ before) (λ log durable. (durable ≡ w.durable) × (log ≡ w.log ++ head ∷ []))) where
-        both : GoesOn reads writes syncs old s5 first start before (λ log durable. (durable ≡ 0) × (log ≡ head ∷ []))
-        both =
-            then old s4 s5 first start before (λ log durable. (log ≡ []) × (durable ≡ 0)) (λ log durable. (durable ≡ 0) × (log ≡ head ∷ [])) w
-            (weaken s4 s5 first start (w.more ++ before) (λ log durable. (durable ≡ w.durable) × (log ≡ w.log ++ head ∷ [])) (λ log durable. (durable ≡ 0) × (log ≡ head ∷ []))
-            (λ log durable p. (p.0 ∙ w.is_so.1, p.1 ∙ ap (λ (t : List (List ℕ)). t ++ head ∷ []) w.is_so.0)) h)
-
-        pub begun-unsynced : (s6 : LogFile S) → s5.is_ended ≡ false → syncs s5.store false s6.store → s6.is_ended ≡ true → s6.size ≡ s5.size → Begins reads writes syncs old s6 first start before head false
-        begun-unsynced s6 e gave ended size =
-            inr (then old s5 s6 first start before (λ log durable. (durable ≡ 0) × (log ≡ head ∷ [])) (λ log durable. ((log ≡ []) ⊎ (log ≡ head ∷ [])) × (durable ≡ 0)) both
-            (weaken s5 s6 first start (both.more ++ before) (λ log durable. (log ≡ both.log) × (durable ≡ both.durable)) (λ log durable. ((log ≡ []) ⊎ (log ≡ head ∷ [])) × (durable ≡ 0))
-            (λ log durable p. (inr (p.0 ∙ both.is_so.1), p.1 ∙ both.is_so.0)) (syncs-badly first start both.durable (both.more ++ before) both.log s5 both.is s6 e gave ended size)))
-
-        pub begun : (s6 : LogFile S) → s5.is_ended ≡ false → syncs s5.store true s6.store → s6.is_ended ≡ s5.is_ended → s6.size ≡ s5.size → s6.end ≡ s5.end → s6.next ≡ s5.next → Begins reads writes syncs old s6 first start before head true
-        begun s6 e gave ended size end next =
-            then old s5 s6 first start before (λ log durable. (durable ≡ 0) × (log ≡ head ∷ [])) (λ log durable. (log ≡ head ∷ []) × (durable ≡ 1)) both
-            (weaken s5 s6 first start (both.more ++ before) (λ log durable. (log ≡ both.log) × (durable ≡ length both.log)) (λ log durable. (log ≡ head ∷ []) × (durable ≡ 1))
-            (λ log durable p. (p.0 ∙ both.is_so.1, p.1 ∙ ap (λ (t : List (List ℕ)). length t) both.is_so.1)) (syncs-well first start both.durable (both.more ++ before) both.log s5 both.is s6 e gave ended size end next))
 
 -- ---- a file that is written again
 
@@ -257,7 +273,7 @@ begin-fault writes old new head size lsn _ (has_ended e same) alive s n z = absu
 begin-fault writes old new head size lsn _ (no_memory e same) alive s n z = begin_no_memory
 begin-fault writes old new head size lsn _ (no_lsn e le same) alive s n z = begin_no_lsn (omega (arith, n))
 begin-fault writes old new head size lsn _ (no_room e lt same) alive s n z = begin_no_room (omega (arith, s, z, ap (λ (k : ℕ). length (frame k head)) n))
-begin-fault writes old new head size lsn _ (append_failed e ended gave) alive s n z = begin_failed
+begin-fault writes old new head size lsn _ (append_failed room ended gave) alive s n z = begin_failed
 
 -- after a refusal a log is as it was, or has ended
 pub same-or-ended : {S : Type 0} (writes : Transfer S) (old new : LogFile S) (payload : List ℕ) (fault : LogFault) → AppendFault writes old payload new fault → (new ≡ old) ⊎ (new.is_ended ≡ true)
@@ -265,9 +281,22 @@ same-or-ended writes old new payload _ (has_ended e same) = inl same
 same-or-ended writes old new payload _ (no_memory e same) = inl same
 same-or-ended writes old new payload _ (no_lsn e le same) = inl same
 same-or-ended writes old new payload _ (no_room e lt same) = inl same
-same-or-ended writes old new payload _ (append_failed e ended gave) = inr ended
+same-or-ended writes old new payload _ (append_failed room ended gave) = inr ended
 
 pub memory-or-failed : {A : Type 0} (size lsn : ℕ) (head : List ℕ) (r : Result A LogFault) (fault : LogFault) → IsErrAnd r (λ e. e ≡ fault) → (fault ≡ Memory) ⊎ (fault ≡ Device) → IfErr r (BeginFault size lsn head)
 memory-or-failed size lsn head (Ok x) fault k why = tt
 memory-or-failed size lsn head (Err x) fault k (inl e) = subst (BeginFault size lsn head) (sym (k ∙ e)) begin_no_memory
 memory-or-failed size lsn head (Err x) fault k (inr e) = subst (BeginFault size lsn head) (sym (k ∙ e)) begin_failed
+
+-- ---- each moment of calls that begin a log, and of those that write one again
+
+pub each-by : (size start : ℕ) (head : List ℕ) (calls : List FileCall) → BeginsBy size start head calls → AtEach (BeginsBy size start head) calls
+each-by size start head _ (wiping {calls = calls} w) = of-wipe calls w
+  where
+    of-wipe : (calls : List FileCall) → Wipes size calls → AtEach (BeginsBy size start head) calls
+    of-wipe _ nothing = wiping nothing
+    of-wipe _ (wrote good) = (wiping (wrote good), wiping nothing)
+    of-wipe _ was_unsynced = (wiping was_unsynced, (wiping (wrote true), wiping nothing))
+each-by size start head _ by_wiped = (by_wiped, (wiping (wrote true), wiping nothing))
+each-by size start head _ (by_wrote good fit room) = (by_wrote good fit room, (by_wiped, (wiping (wrote true), wiping nothing)))
+each-by size start head _ (by_synced good fit room) = (by_synced good fit room, (by_wrote true fit room, (by_wiped, (wiping (wrote true), wiping nothing))))

@@ -10,6 +10,8 @@ pub mod Files
 -- A log in a file.
 pub mod Lives
 pub mod LogFiles
+-- The calls of a device and of two files in one list.
+pub mod Moments
 -- Commits as records of a log.
 pub mod Commits
 pub mod Heads

@@ -1,12 +1,12 @@
 -- A log in a file, as its calls leave it.
-use Rattle.std.specs.Prelude.{◌≡◌, ◌⊎◌, ℕ, ◌+◌, ◌-◌, ◌^◌, ◌<◌, ◌≤◌, Bool, true, false, not, List, [], ◌∷◌, ◌++◌, length, replicate, OnOk, OnErr}
+use Rattle.std.specs.Prelude.{◌≡◌, ℕ, ◌+◌, ◌-◌, ◌^◌, ◌<◌, ◌≤◌, Bool, true, false, not, List, [], ◌∷◌, ◌++◌, length, replicate, OnOk, OnErr}
 use Rattle.std.specs.declared.result.Result.{Result}
 use Rattle.bp_ports.specs.Files.{Transfer, StoreSync}
 use Rattle.example_log.specs.declared.log.LogFile.{LogFile}
 use Rattle.example_log.specs.declared.log.LogFault.{LogFault}
 use Rattle.example_log.specs.declared.log.LogFault.TheVariants.{Memory, Device as FileFailed, Full, Ended}
-use Rattle.example_log.specs.Frames.{frame, frames}
-use Rattle.example_log.specs.Files.{FileCall, FileDid}
+use Rattle.example_log.specs.Frames.{frame, frames, IsRecord}
+use Rattle.example_log.specs.Files.{FileCall, FileDid, failed as has_failed, written}
 use Rattle.example_log.specs.Lives.{LogLife}
 
 -- a log that lived so, and, if it is not ended, where its next record is to stand
@@ -43,7 +43,7 @@ pub data AppendFault {S : Type 0} (writes : Transfer S) (old : LogFile S) (paylo
       → AppendFault writes old payload new Full
   no_room : old.is_ended ≡ false → old.size < old.end + length (frame old.next payload) → new ≡ old
       → AppendFault writes old payload new Full
-  failed : old.is_ended ≡ false → new.is_ended ≡ true
+  failed : HasRoom old payload → new.is_ended ≡ true
       → writes old.store old.end (frame old.next payload) false new.store
       → AppendFault writes old payload new FileFailed
 
@@ -58,13 +58,15 @@ pub data BeginFault (size lsn : ℕ) (head : List ℕ) : LogFault → Type 0 whe
 abbrev pub SamePlace : {S : Type 0} → LogFile S → LogFile S → Type 0
 SamePlace old new = (new.size ≡ old.size) × (new.end ≡ old.end) × (new.next ≡ old.next)
 
--- a call that goes on with such a life, and leaves a log and a number of durable records that are so
+-- a call that goes on with such a life, by one call of the file at most, and leaves a log and a number
+-- of durable records that are so
 pub record GoesOn {S : Type 0} (reads writes : Transfer S) (syncs : StoreSync S) (old new : LogFile S)
     (first : List ℕ) (start : ℕ) (calls : List FileCall) (so : List (List ℕ) → ℕ → Type 0)
     : Type 0 where
   pub more : List FileCall
   pub log : List (List ℕ)
   pub durable : ℕ
+  pub one : length more ≤ 1
   pub did : FileDid reads writes syncs old.store more new.store
   pub is : IsLogFile first start (more ++ calls) log durable new
   pub is_so : so log durable
@@ -88,15 +90,24 @@ pub data Settles (bytes : List ℕ) : List FileCall → Bool → Type 0 where
   unwritten : Settles bytes (FileCall.Again bytes false ∷ []) false
   synced : (good : Bool) → Settles bytes (FileCall.Sync good ∷ FileCall.Again bytes true ∷ []) good
 
--- a log that was begun with one record, durably, or why not: the file was not wiped durably; or the
--- life has begun
-abbrev pub Begins : {S : Type 0} → Transfer S → Transfer S → StoreSync S → LogFile S → LogFile S
-    → List ℕ → ℕ → List FileCall → List ℕ → Bool → Type 0
-Begins reads writes syncs old new first start before head true =
-    GoesOn reads writes syncs old new first start before
-    (λ log durable. (log ≡ head ∷ []) × (durable ≡ 1))
-Begins reads writes syncs old new first start before head false =
-    ((more : List FileCall) × FileDid reads writes syncs old.store more new.store
-    × Wipes (length first) more × (new.is_ended ≡ true))
-    ⊎ GoesOn reads writes syncs old new first start before
-    (λ log durable. ((log ≡ []) ⊎ (log ≡ head ∷ [])) × (durable ≡ 0))
+-- the calls by which a log with one record is begun in a file of so many bytes, some of them or all
+pub data BeginsBy (size start : ℕ) (head : List ℕ) : List FileCall → Type 0 where
+  wiping : {calls : List FileCall} → Wipes size calls → BeginsBy size start head calls
+  wiped : BeginsBy size start head
+      (FileCall.Sync true ∷ FileCall.Write 0 (replicate size 0) true ∷ [])
+  wrote : (good : Bool) → IsRecord start head → length (frame start head) ≤ size
+      → BeginsBy size start head (FileCall.Write 0 (frame start head) good ∷ FileCall.Sync true
+      ∷ FileCall.Write 0 (replicate size 0) true ∷ [])
+  synced : (good : Bool) → IsRecord start head → length (frame start head) ≤ size
+      → BeginsBy size start head (FileCall.Sync good ∷ FileCall.Write 0 (frame start head) true
+      ∷ FileCall.Sync true ∷ FileCall.Write 0 (replicate size 0) true ∷ [])
+
+-- a log that was begun so, whatever the file had, if no call of it had failed
+pub record Begins {S : Type 0} (reads writes : Transfer S) (syncs : StoreSync S) (old new : LogFile S)
+    (start : ℕ) (head : List ℕ) (good : Bool) : Type 0 where
+  pub calls : List FileCall
+  pub did : FileDid reads writes syncs old.store calls new.store
+  pub by : BeginsBy old.size start head calls
+  pub is : good ≡ true → (first : List ℕ) (before : List FileCall) → has_failed before ≡ false
+      → length (written first before) ≡ length first → old.size ≡ length first
+      → IsLogFile first start (calls ++ before) (head ∷ []) 1 new

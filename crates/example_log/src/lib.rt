@@ -6,6 +6,8 @@ pub mod frames;
 pub mod log;
 pub mod reading;
 pub mod redo;
+pub mod store;
 
 pub use log::{LogFault, LogFile};
 pub use redo::redo_pages;
+pub use store::LogStore;

@@ -1,11 +1,12 @@
 //! A log in a file of a fixed length. Its first record names the table.
 ghost use Rattle.std.specs.Prelude.{◌≡◌, ◌⊎◌, ◌+◌, ◌-◌, ◌≤◌, ℕ, true, false, List, [], ◌∷◌, ◌++◌, length, replicate, Err, IfOk, IfErr, OnOk, OnErr, is_ok};
 ghost use Rattle.example_log.specs.declared.log.LogFault.TheVariants.{Memory, Device as FileFailed};
-ghost use Rattle.example_log.specs.Files.{FileCall, FileDid, failed, written};
+ghost use Rattle.example_log.specs.Files.{FileCall, FileDid};
+ghost use Rattle.example_log.specs.Frames.{frame};
 ghost use Rattle.example_log.specs.LogFiles.{IsLogFile, IsUnread, AppendFault, BeginFault, EndsOnError, HasRoom, SamePlace, GoesOn, Begins, Settles, WipesFile};
 
 use crate::frames::put_frame;
-use bp_ports::Store;
+use crate::store::LogStore;
 use std::alloc::{AllocError, AllocFailed, Global};
 use thiserror::Error;
 
@@ -56,7 +57,7 @@ impl<T: Drop> From<AllocFailed<T>> for LogFault {
 
 /// A log in a file. After a call that failed it has ended, and only what a crash leaves of it counts.
 #[derive(Drop)]
-pub struct LogFile<S: Store> {
+pub struct LogFile<S> {
     pub store: S,
     /// The bytes of the file.
     pub size: usize,
@@ -68,7 +69,7 @@ pub struct LogFile<S: Store> {
     pub is_ended: bool,
 }
 
-impl<S: Store> LogFile<S> {
+impl<S: Drop> LogFile<S> {
     /// Takes a file of so many bytes, in which a log is still to be begun.
     pub fn over(store: S, size: usize) -> LogFile<S> {
         LogFile {
@@ -81,27 +82,33 @@ impl<S: Store> LogFile<S> {
     }
 
     /// Reads the whole file. `Memory`, and nothing is read, and `Device` where the file fails or is shorter.
-    pub fn read_all(&mut self, alloc: Global) -> Result<Vec<u8>, LogFault>
+    pub fn read_all<P>(&mut self, alloc: Global, pages: &P) -> Result<Vec<u8>, LogFault>
+    where
+        S: LogStore<P>,
         ensures read { IfOk result (λ v. (length v.items ≡ self.old.size)
-            × S.reads self.old.store 0 v.items true self.new.store) }
-        ensures unread { IfErr result (IsUnread S.reads self.old.store self.new.store) }
+            × S.reads pages.now self.old.store 0 v.items true self.new.store) }
+        ensures unread { IfErr result
+            (IsUnread (S.reads pages.now) self.old.store self.new.store) }
         ensures same { SamePlace self.old self.new }
     {
         let mut bytes = vec![in alloc; 0u8; self.size]?;
-        match self.store.read_slot(0, &mut bytes) {
+        match self.store.read_bytes(pages, 0, &mut bytes) {
             Ok(()) => Ok(bytes),
             Err(_) => Err(LogFault::Device),
         }
     }
 
     /// Writes bytes, or ends the log.
-    fn write(&mut self, start: usize, bytes: &[u8]) -> Result<(), LogFault>
-        ensures gives { S.writes self.old.store start bytes.now (is_ok result) self.new.store }
+    fn write<P>(&mut self, pages: &P, start: usize, bytes: &[u8]) -> Result<(), LogFault>
+    where
+        S: LogStore<P>,
+        ensures gives { S.writes pages.now self.old.store start bytes.now (is_ok result)
+            self.new.store }
         ensures fault { OnErr result (result ≡ Err FileFailed) }
         ensures ended { EndsOnError self.old self.new result }
         ensures same { SamePlace self.old self.new }
     {
-        match self.store.write_slot(start as u64, bytes) {
+        match self.store.write_bytes(pages, start as u64, bytes) {
             Ok(()) => Ok(()),
             Err(_) => {
                 self.is_ended = true;
@@ -111,18 +118,21 @@ impl<S: Store> LogFile<S> {
     }
 
     /// Makes each record durable, or ends the log.
-    pub fn sync(&mut self) -> Result<(), LogFault>
+    pub fn sync<P>(&mut self, pages: &P) -> Result<(), LogFault>
+    where
+        S: LogStore<P>,
         ensures life { (first : List ℕ) (start durable : ℕ) (calls : List FileCall)
             (log : List (List ℕ)) → IsLogFile first start calls log durable self.old →
             self.old.is_ended ≡ false →
-            GoesOn S.reads S.writes S.syncs self.old self.new first start calls (λ after synced.
+            GoesOn (S.reads pages.now) (S.writes pages.now) (S.syncs pages.now) self.old self.new
+            first start calls (λ after synced.
             (after ≡ log) × OnOk result (synced ≡ length log) × OnErr result (synced ≡ durable)) }
-        ensures gives { S.syncs self.old.store (is_ok result) self.new.store }
+        ensures gives { S.syncs pages.now self.old.store (is_ok result) self.new.store }
         ensures fault { OnErr result (result ≡ Err FileFailed) }
         ensures ended { EndsOnError self.old self.new result }
         ensures same { SamePlace self.old self.new }
     {
-        match self.store.sync_slots() {
+        match self.store.sync_bytes(pages) {
             Ok(()) => Ok(()),
             Err(_) => {
                 self.is_ended = true;
@@ -133,17 +143,22 @@ impl<S: Store> LogFile<S> {
 
     /// Appends a record, and returns its LSN. It is durable after the next `sync`. `Full` where the file has no room for
     /// it or its LSN would be 2^64-1, `Memory`, and `Ended`: the log is then as it was. After `Device` it has ended.
-    pub fn append(&mut self, alloc: Global, payload: &[u8]) -> Result<u64, LogFault>
+    pub fn append<P>(&mut self, alloc: Global, pages: &P, payload: &[u8]) -> Result<u64, LogFault>
+    where
+        S: LogStore<P>,
         ensures life { (first : List ℕ) (start durable : ℕ) (calls : List FileCall)
             (log : List (List ℕ)) → IsLogFile first start calls log durable self.old →
-            GoesOn S.reads S.writes S.syncs self.old self.new first start calls (λ after synced.
-            (synced ≡ durable)
+            GoesOn (S.reads pages.now) (S.writes pages.now) (S.syncs pages.now) self.old self.new
+            first start calls (λ after synced. (synced ≡ durable)
             × IfOk result (λ lsn. (lsn ≡ start + length log) × (after ≡ log ++ payload.now ∷ []))
             × OnErr result ((after ≡ log) ⊎ (after ≡ log ++ payload.now ∷ []))) }
         ensures alive { OnOk result (self.new.is_ended ≡ false) }
         ensures next { IfOk result (λ lsn. lsn ≡ self.old.next) }
+        ensures gives { OnOk result (S.writes pages.now self.old.store self.old.end
+            (frame self.old.next payload.now) true self.new.store) }
         ensures room { OnOk result (HasRoom self.old payload.now) }
-        ensures fault { IfErr result (AppendFault S.writes self.old payload.now self.new) }
+        ensures fault { IfErr result
+            (AppendFault (S.writes pages.now) self.old payload.now self.new) }
         ensures size { self.new.size ≡ self.old.size }
     {
         if self.is_ended {
@@ -158,7 +173,7 @@ impl<S: Store> LogFile<S> {
         if frame.len() > self.size.saturating_sub(self.end) {
             return Err(LogFault::Full);
         }
-        self.write(self.end, &frame)?;
+        self.write(pages, self.end, &frame)?;
         self.end += frame.len();
         self.next = lsn + 1;
         Ok(lsn)
@@ -166,9 +181,12 @@ impl<S: Store> LogFile<S> {
 
     /// Writes records again that were read from the first byte on, and zeros behind them, and makes them durable: what was
     /// read may be in the system's memory alone. `Memory`, and `Device` where the file fails.
-    pub fn settle(&mut self, alloc: Global, records: &[u8]) -> Result<(), LogFault>
+    pub fn settle<P>(&mut self, alloc: Global, pages: &P, records: &[u8]) -> Result<(), LogFault>
+    where
+        S: LogStore<P>,
         ensures did { (calls : List FileCall)
-            × FileDid S.reads S.writes S.syncs self.old.store calls self.new.store
+            × FileDid (S.reads pages.now) (S.writes pages.now) (S.syncs pages.now)
+            self.old.store calls self.new.store
             × Settles (records.now ++ replicate (self.old.size - length records.now) 0) calls
             (is_ok result) }
         ensures fault { IfErr result (λ why. (why ≡ Memory) ⊎ (why ≡ FileFailed)) }
@@ -177,53 +195,61 @@ impl<S: Store> LogFile<S> {
         bytes.extend_from_slice(records)?;
         let zeros = vec![in alloc; 0u8; self.size.saturating_sub(records.len())]?;
         bytes.extend_from_slice(&zeros)?;
-        self.write(0, &bytes)?;
-        self.sync()?;
+        self.write(pages, 0, &bytes)?;
+        self.sync(pages)?;
         Ok(())
     }
 
     /// Writes zeros over the whole file, and makes them durable: what a crash then leaves has no record. The log has ended.
     /// `Memory`, and `Device` where the file fails.
-    pub fn wipe(&mut self, alloc: Global) -> Result<(), LogFault>
-        ensures wiped { WipesFile S.reads S.writes S.syncs self.old.size self.old.store
-            (is_ok result) self.new.store }
+    pub fn wipe<P>(&mut self, alloc: Global, pages: &P) -> Result<(), LogFault>
+    where
+        S: LogStore<P>,
+        ensures wiped { WipesFile (S.reads pages.now) (S.writes pages.now) (S.syncs pages.now)
+            self.old.size self.old.store (is_ok result) self.new.store }
         ensures ended { self.new.is_ended ≡ true }
         ensures fault { IfErr result (λ why. (why ≡ Memory) ⊎ (why ≡ FileFailed)) }
         ensures same { SamePlace self.old self.new }
     {
         self.is_ended = true;
         let zeros = vec![in alloc; 0u8; self.size]?;
-        self.write(0, &zeros)?;
-        self.sync()?;
+        self.write(pages, 0, &zeros)?;
+        self.sync(pages)?;
         Ok(())
     }
 
     /// Wipes the file, and begins a log with this first record at an LSN from 1 on, which is then durable. What was in the
     /// file counts until it is wiped. After an error the log has ended: `Memory`, `Device`, and `Full` where the file has
     /// no room for the record or the LSN is 2^64-1.
-    pub fn begin(&mut self, alloc: Global, lsn: u64, head: &[u8]) -> Result<(), LogFault>
+    pub fn begin<P>(
+        &mut self,
+        alloc: Global,
+        pages: &P,
+        lsn: u64,
+        head: &[u8],
+    ) -> Result<(), LogFault>
+    where
+        S: LogStore<P>,
         requires { 1 ≤ lsn }
         ensures alive { OnOk result (self.new.is_ended ≡ false) }
         ensures ended { OnErr result (self.new.is_ended ≡ true) }
         ensures size { self.new.size ≡ self.old.size }
         ensures fault { IfErr result (BeginFault self.old.size lsn head.now) }
-        ensures begins { (first : List ℕ) (before : List FileCall) → failed before ≡ false →
-            length (written first before) ≡ length first → self.old.size ≡ length first →
-            Begins S.reads S.writes S.syncs self.old self.new first lsn before head.now
-            (is_ok result) }
+        ensures begins { Begins (S.reads pages.now) (S.writes pages.now) (S.syncs pages.now)
+            self.old self.new lsn head.now (is_ok result) }
     {
-        self.wipe(alloc)?;
+        self.wipe(alloc, pages)?;
         self.end = 0;
         self.next = lsn;
         self.is_ended = false;
-        match self.append(alloc, head) {
+        match self.append(alloc, pages, head) {
             Ok(_) => {}
             Err(fault) => {
                 self.is_ended = true;
                 return Err(fault);
             }
         }
-        self.sync()?;
+        self.sync(pages)?;
         Ok(())
     }
 }

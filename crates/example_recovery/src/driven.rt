@@ -210,12 +210,12 @@ fn create(
     rt: &(impl Runtime<A = Global> + Files<File = File> + Wait),
     words: &Words,
 ) -> Result<(), anyhow::Error> {
-    drop(create_page_file(rt, rt.alloc(), PAGES, words.device, Format::Plain)?);
+    let port = create_page_file(rt, rt.alloc(), PAGES, words.device, Format::Plain)?;
     let (mut one, mut two) = (
         new_log(rt, LOGS[0], words.log)?,
         new_log(rt, LOGS[1], words.log)?,
     );
-    create_logs(rt.alloc(), NAME, &words.device, &mut one, &mut two)?;
+    create_logs(rt.alloc(), NAME, &port, &mut one, &mut two)?;
     Ok(())
 }
 

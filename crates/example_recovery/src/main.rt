@@ -91,7 +91,7 @@ fn make(
         new_log(rt, LOGS[0], LOG_SIZE)?,
         new_log(rt, LOGS[1], LOG_SIZE)?,
     );
-    create(rt.alloc(), NAME, &port.geometry(), &mut one, &mut two)?;
+    create(rt.alloc(), NAME, &port, &mut one, &mut two)?;
     Ok((begin(rt, port, one)?, two))
 }
 

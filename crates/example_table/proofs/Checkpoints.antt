@@ -1,5 +1,5 @@
 -- Why a checkpoint may be stopped, and what it leaves.
-use Rattle.std.proofs.Common.{◌≡◌, inl, inr, refl, sym, ap, subst, ◌∙◌, ℕ, zero, suc, max, ◌+◌, ◌-◌, ◌<◌, ◌≤◌, nat_lt, Bool, true, false, not, if◌then◌else◌, ◌&&◌, List, [], ◌∷◌, ◌++◌, length, take, replicate, reverse, append_assoc, append-nil, arith, length-append}
+use Rattle.std.proofs.Common.{◌≡◌, inl, inr, refl, sym, ap, subst, ◌∙◌, ℕ, zero, suc, max, ◌+◌, ◌-◌, ◌<◌, ◌≤◌, nat_lt, Bool, true, false, not, if◌then◌else◌, ◌&&◌, List, [], ◌∷◌, ◌++◌, length, map, take, replicate, reverse, append_assoc, append-nil, arith, length-append}
 use Rattle.std.specs.Prelude.{◌⊎◌, Result, Ok, Err}
 use Rattle.std.specs.Result.{IsErr}
 use Rattle.std.proofs.lemmas.Bool.{cases_lt, lt-leb}
@@ -33,12 +33,17 @@ use Rattle.bp_trail.specs.Saved.{unsaved}
 use Rattle.bp_trail.proofs.Outside.{saved-outside}
 use Rattle.example_log.specs.declared.log.LogFile.{LogFile}
 use Rattle.example_table.specs.declared.table.TableFault.{TableFault}
-use Rattle.example_table.specs.Checkpoints.{Checkpoints, HasSaved}
-use Rattle.example_table.specs.Checkpoints.Checkpoints.{moving, moved}
+use Rattle.example_table.specs.Checkpoints.{Checkpoints, HasSaved, IsMoving, MovesOn}
+use Rattle.example_table.specs.Checkpoints.Checkpoints.{moving as was_moving, moved}
+use Rattle.example_table.specs.Checkpoints.IsMoving.{staying, moving}
 use Rattle.example_log.specs.Commits.{AreChanges, AreCommits, HasCommits, changes_of, log_of, payload_of}
 use Rattle.example_log.specs.Disk.{DeviceCall, Did, Honest, MayLeave, Reads, Writes, Syncs, sync_failed}
 use Rattle.example_log.specs.Disk.DeviceCall.{Sync}
-use Rattle.example_log.specs.Files.{FileCall, FileLeaves, failed, synced as synced_bytes, written as written_bytes}
+use Rattle.example_log.specs.Moments.{AtEach, Step, log_in, pages_in, spare_in}
+use Rattle.example_log.specs.Moments.Step.{OfPages, OfSpare}
+use Rattle.example_log.proofs.Moments.{each-append, each-both, each-map, each-spare, log-more, made-append, made-pages, made-spare, never-spare, of-pages, of-spare, pages-more, spare-append}
+use Rattle.example_table.proofs.Standing.{calls-since, each-page, from-earlier}
+use Rattle.example_log.specs.Files.{FileCall, FileDid, FileLeaves, failed, synced as synced_bytes, written as written_bytes}
 use Rattle.example_log.specs.Frames.{frame, frames}
 use Rattle.example_log.specs.Lives.{AreRecords, LogLife, Reopened, TellsTrue}
 use Rattle.example_log.specs.Lives.LogLife.{closed}
@@ -49,16 +54,15 @@ use Rattle.example_table.specs.PoolLives.{PoolFrom}
 use Rattle.example_table.specs.PoolLives.PoolFrom.{opened, was_synced}
 use Rattle.example_log.specs.Promise.{MayBeRedone}
 use Rattle.example_table.specs.Images.{FirstsAreFull}
-use Rattle.example_table.specs.Tables.{AreBelow, Cut, IsCut, TableRan, writes_of}
+use Rattle.example_table.specs.Tables.{AreBelow, Cut, IsCut, Stands, TableRan, writes_of}
 use Rattle.example_table.specs.TableCalls.{IsTable, TableGoes}
 use Rattle.example_log.proofs.CommitsRead.{head-is, whole-commits}
 use Rattle.example_log.proofs.Framing.{frame-same, zeros-none}
 use Rattle.example_log.proofs.Lives.{LifeIs, life-is, next, remains}
 use Rattle.example_table.proofs.Openings.{log-front, none-read, stood}
-use Rattle.example_log.proofs.Redoing.{did-append}
 use Rattle.example_table.proofs.PoolLives.{IsSound, NoneOpen, since-begun, then-life}
 use Rattle.example_table.proofs.Tables.{Since, changes-append, mended, since-mended, since-written, writes-append}
-use Rattle.example_table.proofs.Tabling.{AddsQuiet, Quiet, none-added, quiet-keeps, quiet-marks, quiet-writes, works}
+use Rattle.example_table.proofs.Tabling.{AddsQuiet, Quiet, none-added, pool-went, quiet-keeps, quiet-marks, quiet-writes, works}
 
 -- ---- the LSNs before a log was begun
 
@@ -273,7 +277,7 @@ ends : {first : List ℕ} {start : ℕ} {calls : List FileCall} {log : List (Lis
 ends true life = life
 ends false life = closed life
 
-module _ {S P : Type 0} (reads writes : Transfer S) (syncs : StoreSync S) (page_reads : Reads P) (page_writes : Writes P) (page_syncs : Syncs P) (table : List ℕ) (cut : Cut) (file : List ℕ) (start : ℕ) (synced : Trail) (calls : List DeviceCall) (log_calls : List FileCall) (commits : List (List LogRecord)) (records : ℕ) (pending : List LogRecord)
+module _ {S P : Type 0} (reads writes : P → Transfer S) (syncs : P → StoreSync S) (page_reads : Reads P) (page_writes : Writes P) (page_syncs : Syncs P) (table : List ℕ) (cut : Cut) (file : List ℕ) (start : ℕ) (synced : Trail) (calls : List DeviceCall) (log_calls : List FileCall) (commits : List (List LogRecord)) (records : ℕ) (pending : List LogRecord)
     (old mid : OwnedView P) (old_log : LogFile S) (is : IsTable table cut file start synced calls log_calls commits records pending old old_log)
     (adds : AddsQuiet old.core mid.core) (work : DoesWork page_reads page_writes old.core old.port mid.core mid.port) (legal : Legal mid.core.parameters mid.core.past) where
   worked : (more : List DeviceCall) × Did page_reads page_writes page_syncs old.port more mid.port × PoolFrom cut.past cut.calls (work.piece ++ old.core.past) (more ++ calls) synced × (some sync_failed more ≡ false)
@@ -300,59 +304,41 @@ module _ {S P : Type 0} (reads writes : Transfer S) (syncs : StoreSync S) (page_
     full = full-still;
   }
 
-  pub stops-flushing : TableGoes reads writes syncs page_reads page_writes page_syncs old mid old_log old_log table cut file start calls log_calls (λ after n left. (after ≡ commits) × (left ≡ pending))
-  stops-flushing = record {
-    more = worked.0;
-    more_log = [];
-    synced = synced;
-    commits = commits;
-    durable = records;
-    pending = pending;
-    parameters = same;
-    did = worked.1;
-    log_did = refl;
-    is = record { ran = mid-ran; file_is = is.file_is };
-    is_so = (refl, refl);
-  }
+  pub stops-flushing : TableGoes reads writes syncs page_reads page_writes page_syncs old mid old_log old_log table cut file start calls log_calls commits records (λ after n left. (after ≡ commits) × (left ≡ pending))
+  stops-flushing =
+      pool-went reads writes syncs page_reads page_writes page_syncs table cut file start synced calls log_calls commits records pending old old_log is mid old_log worked.0 pending synced (λ after n left. (after ≡ commits) × (left ≡ pending)) same refl worked.1 (record { ran = mid-ran; file_is = is.file_is }) (refl, refl)
 
   module _ (new : OwnedView P) (core : new.core ≡ mid.core) where
+    abbrev ended : LogFile S
+    ended = record { store = old_log.store; size = old_log.size; end = old_log.end; next = old_log.next; is_ended = true }
+
     pub stops-syncing : (fault : PortFault) → page_syncs mid.port (Err fault) new.port
-        → TableGoes reads writes syncs page_reads page_writes page_syncs old new old_log (record { store = old_log.store; size = old_log.size; end = old_log.end; next = old_log.next; is_ended = true }) table cut file start calls log_calls (λ after n left. (after ≡ commits) × (left ≡ pending))
-    stops-syncing fault gave = record {
-      more = Sync false ∷ worked.0;
-      more_log = [];
-      synced = synced;
-      commits = commits;
-      durable = records;
-      pending = pending;
-      parameters = ap (λ (x : CoreView). x.parameters) core ∙ same;
-      did = (mid.port, worked.1, (Err fault, gave, refl));
-      log_did = refl;
-      is = record {
-        ran =
-            subst (λ (x : CoreView). TableRan x.parameters table cut file start false x.past synced (Sync false ∷ worked.0 ++ calls) log_calls commits records pending) (sym core)
-            (record {
-              log = ends old_log.is_ended mid-ran.log;
-              are = mid-ran.are;
-              legal = mid-ran.legal;
-              cut_is = mid-ran.cut_is;
-              pool = was_synced false mid-ran.pool;
-              unfailed = λ no. absurd (cc);
-              written = mid-ran.written;
-              mark = mid-ran.mark;
-              named = mid-ran.named;
-              kept = mid-ran.kept;
-              full = mid-ran.full;
-            });
-        file_is = record { life = ends old_log.is_ended is.file_is.life; positive = is.file_is.positive; size = is.file_is.size; end = λ no. absurd (cc); next = λ no. absurd (cc) };
-      };
-      is_so = (refl, refl);
-    }
+        → TableGoes reads writes syncs page_reads page_writes page_syncs old new old_log (record { store = old_log.store; size = old_log.size; end = old_log.end; next = old_log.next; is_ended = true }) table cut file start calls log_calls commits records (λ after n left. (after ≡ commits) × (left ≡ pending))
+    stops-syncing fault gave =
+        pool-went reads writes syncs page_reads page_writes page_syncs table cut file start synced calls log_calls commits records pending old old_log is new ended (Sync false ∷ worked.0) pending synced (λ after n left. (after ≡ commits) × (left ≡ pending)) (ap (λ (x : CoreView). x.parameters) core ∙ same) refl (mid.port, worked.1, (Err fault, gave, refl)) (record {
+          ran =
+              subst (λ (x : CoreView). TableRan x.parameters table cut file start false x.past synced (Sync false ∷ worked.0 ++ calls) log_calls commits records pending) (sym core)
+              (record {
+                log = ends old_log.is_ended mid-ran.log;
+                are = mid-ran.are;
+                legal = mid-ran.legal;
+                cut_is = mid-ran.cut_is;
+                pool = was_synced false mid-ran.pool;
+                unfailed = λ no. absurd (cc);
+                written = mid-ran.written;
+                mark = mid-ran.mark;
+                named = mid-ran.named;
+                kept = mid-ran.kept;
+                full = mid-ran.full;
+              });
+          file_is = record { life = ends old_log.is_ended is.file_is.life; positive = is.file_is.positive; size = is.file_is.size; end = λ no. absurd (cc); next = λ no. absurd (cc) };
+        }) (refl, refl)
 
     pub all-synced : (done : Unit {0}) → old_log.is_ended ≡ false → page_syncs mid.port (Ok done) new.port → ((p : ℕ) → unsaved mid.core.past p ≡ false)
         → HasSaved page_reads page_writes page_syncs old new old_log table cut file start calls log_calls commits records pending
     all-synced done alive gave saved = record {
       more = Sync true ∷ worked.0;
+      parameters = ap (λ (x : CoreView). x.parameters) core ∙ same;
       did = (mid.port, worked.1, (Ok done, gave, refl));
       is = record {
         ran =
@@ -381,90 +367,157 @@ module _ {S P : Type 0} (reads writes : Transfer S) (syncs : StoreSync S) (page_
 
 -- ---- the log moves
 
-module _ {S P : Type 0} (reads writes : Transfer S) (syncs : StoreSync S) (page_reads : Reads P) (page_writes : Writes P) (page_syncs : Syncs P) (table : List ℕ) (cut : Cut) (file : List ℕ) (start : ℕ) (calls : List DeviceCall) (log_calls : List FileCall) (commits : List (List LogRecord)) (old mid new : OwnedView P) (old_log mid_log : LogFile S) where
-  pub durable-is : (d : TableGoes reads writes syncs page_reads page_writes page_syncs old mid old_log mid_log table cut file start calls log_calls (λ after n left. (after ≡ commits) × (left ≡ []) × (n ≡ 1 + length commits)))
-      → IsTable table cut file start d.synced (d.more ++ calls) (d.more_log ++ log_calls) commits (1 + length commits) [] mid mid_log
+module _ {S P : Type 0} (reads writes : P → Transfer S) (syncs : P → StoreSync S) (page_reads : Reads P) (page_writes : Writes P) (page_syncs : Syncs P) (table : List ℕ) (cut : Cut) (file : List ℕ) (start : ℕ) (calls : List DeviceCall) (log_calls : List FileCall) (commits : List (List LogRecord)) (old mid new : OwnedView P) (old_log mid_log : LogFile S) where
+  pub durable-is : {records : ℕ} (d : TableGoes reads writes syncs page_reads page_writes page_syncs old mid old_log mid_log table cut file start calls log_calls commits records (λ after n left. (after ≡ commits) × (left ≡ []) × (n ≡ 1 + length commits)))
+      → IsTable table cut file start d.synced (pages_in d.steps ++ calls) (log_in d.steps ++ log_calls) commits (1 + length commits) [] mid mid_log
   durable-is d =
-      subst (λ (n : ℕ). IsTable table cut file start d.synced (d.more ++ calls) (d.more_log ++ log_calls) commits n [] mid mid_log) d.is_so.2
-      (subst (λ (l : List LogRecord). IsTable table cut file start d.synced (d.more ++ calls) (d.more_log ++ log_calls) commits d.durable l mid mid_log) d.is_so.1
-      (subst (λ (cs : List (List LogRecord)). IsTable table cut file start d.synced (d.more ++ calls) (d.more_log ++ log_calls) cs d.durable d.pending mid mid_log) d.is_so.0 d.is))
+      subst (λ (n : ℕ). IsTable table cut file start d.synced (pages_in d.steps ++ calls) (log_in d.steps ++ log_calls) commits n [] mid mid_log) d.is_so.2
+      (subst (λ (l : List LogRecord). IsTable table cut file start d.synced (pages_in d.steps ++ calls) (log_in d.steps ++ log_calls) commits d.durable l mid mid_log) d.is_so.1
+      (subst (λ (cs : List (List LogRecord)). IsTable table cut file start d.synced (pages_in d.steps ++ calls) (log_in d.steps ++ log_calls) cs d.durable d.pending mid mid_log) d.is_so.0 d.is))
 
-  pub saved-since : (more : List DeviceCall) (more_log : List FileCall) → Did page_reads page_writes page_syncs old.port more mid.port → HasSaved page_reads page_writes page_syncs mid new mid_log table cut file start (more ++ calls) (more_log ++ log_calls) commits (1 + length commits) []
-      → HasSaved page_reads page_writes page_syncs old new mid_log table cut file start calls (more_log ++ log_calls) commits (1 + length commits) []
-  saved-since more more_log did h = record {
-    more = h.more ++ more;
-    did = did-append page_reads page_writes page_syncs old.port mid.port new.port h.more more did h.did;
-    is = subst (λ (cs : List DeviceCall). IsTable table cut file start new.core.past cs (more_log ++ log_calls) commits (1 + length commits) [] new mid_log) (sym (append_assoc h.more more calls)) h.is;
-    saved = h.saved;
+module _ {S P : Type 0} (table : List ℕ) (cut : Cut) (file : List ℕ) (start : ℕ) (all_calls : List DeviceCall) (all_log_calls : List FileCall) (commits : List (List LogRecord)) (new : OwnedView P) (log : LogFile S) (is : IsTable table cut file start new.core.past all_calls all_log_calls commits (1 + length commits) [] new log) (alive : log.is_ended ≡ false) where
+  next-is : log.next ≡ start + 1 + length commits
+  next-is = omega (arith, is.file_is.next alive, length-map commits payload_of)
+
+  next-table : (saved : (p : ℕ) → unsaved new.core.past p ≡ false) (new_log : LogFile S) (other : List ℕ) (begun_calls : List FileCall) → IsLogFile other (start + 1 + length commits) begun_calls (table ∷ []) 1 new_log
+      → IsTable table (record { past = new.core.past; calls = all_calls; commits = cut.commits ++ commits }) other (start + 1 + length commits) new.core.past all_calls begun_calls [] 1 [] new new_log
+  next-table saved new_log other begun_calls f = record {
+    ran = record {
+      log = f.life;
+      are = tt;
+      legal = is.ran.legal;
+      cut_is = next-cut new.core.parameters table cut file start (not log.is_ended) new.core.past new.core.past all_calls all_log_calls commits (1 + length commits) is.ran refl saved;
+      pool = opened;
+      unfailed = λ yes. is.ran.unfailed (ap not alive);
+      written = ap (λ (cs : List (List LogRecord)). reverse (changes_of cs)) (append-nil (cut.commits ++ commits)) ∙ is.ran.written;
+      mark = (let m = is.ran.mark in omega arith);
+      named = omega arith;
+      kept = is.ran.kept;
+      full = tt;
+    };
+    file_is = f;
   }
 
-  module _ (more_log : List FileCall) (s : HasSaved page_reads page_writes page_syncs old new mid_log table cut file start calls (more_log ++ log_calls) commits (1 + length commits) []) (alive : mid_log.is_ended ≡ false) where
-    pub next-is : mid_log.next ≡ start + 1 + length commits
-    next-is = omega (arith, s.is.file_is.next alive, length-map commits payload_of)
-
-    pub next-table : (new_log : LogFile S) (other : List ℕ) (begun_calls : List FileCall) → IsLogFile other (start + 1 + length commits) begun_calls (table ∷ []) 1 new_log
-        → IsTable table (record { past = new.core.past; calls = s.more ++ calls; commits = cut.commits ++ commits }) other (start + 1 + length commits) new.core.past (s.more ++ calls) begun_calls [] 1 [] new new_log
-    next-table new_log other begun_calls f = record {
-      ran = record {
-        log = f.life;
-        are = tt;
-        legal = s.is.ran.legal;
-        cut_is = next-cut new.core.parameters table cut file start (not mid_log.is_ended) new.core.past new.core.past (s.more ++ calls) (more_log ++ log_calls) commits (1 + length commits) s.is.ran refl s.saved;
-        pool = opened;
-        unfailed = λ yes. s.is.ran.unfailed (ap not alive);
-        written = ap (λ (cs : List (List LogRecord)). reverse (changes_of cs)) (append-nil (cut.commits ++ commits)) ∙ s.is.ran.written;
-        mark = (let m = s.is.ran.mark in omega arith);
-        named = omega arith;
-        kept = s.is.ran.kept;
-        full = tt;
-      };
-      file_is = f;
-    }
-
-module _ {S P : Type 0} (reads writes : Transfer S) (syncs : StoreSync S) (page_reads : Reads P) (page_writes : Writes P) (page_syncs : Syncs P) (table : List ℕ) (cut : Cut) (file : List ℕ) (start : ℕ) (calls : List DeviceCall) (log_calls : List FileCall) (commits : List (List LogRecord)) (old new : OwnedView P) (old_log new_log spare new_spare : LogFile S) (other : List ℕ) (before : List FileCall) where
+module _ {S P : Type 0} (reads writes : P → Transfer S) (syncs : P → StoreSync S) (page_reads : Reads P) (page_writes : Writes P) (page_syncs : Syncs P) (table : List ℕ) (cut : Cut) (file : List ℕ) (start : ℕ) (calls : List DeviceCall) (log_calls : List FileCall) (commits : List (List LogRecord)) (records : ℕ) (old new : OwnedView P) (old_log new_log spare new_spare : LogFile S) (other : List ℕ) (before : List FileCall) where
   abbrev Does : Result (Unit {0}) TableFault → Type 0
-  Does r = Checkpoints reads writes syncs page_reads page_writes page_syncs old new old_log new_log spare new_spare table cut file start calls log_calls commits other before r
+  Does r = Checkpoints reads writes syncs page_reads page_writes page_syncs old new old_log new_log spare new_spare table cut file start calls log_calls commits records other before r
 
   -- an error, whichever it is
   pub does-not : (r : Result (Unit {0}) TableFault) → IsErr r → ((why : TableFault) → Does (Err why)) → Does r
   does-not (Ok x) e h = absurd (cc)
   does-not (Err why) e h = h why
 
-  module _ (mid : OwnedView P) (mid_log : LogFile S) (d : TableGoes reads writes syncs page_reads page_writes page_syncs old mid old_log mid_log table cut file start calls log_calls (λ after n left. (after ≡ commits) × (left ≡ []) × (n ≡ 1 + length commits)))
-      (h : HasSaved page_reads page_writes page_syncs mid new mid_log table cut file start (d.more ++ calls) (d.more_log ++ log_calls) commits (1 + length commits) []) (alive : mid_log.is_ended ≡ false)
-      (lsn : ℕ) (head : List ℕ) (lsn-is : lsn ≡ max mid_log.next 1) (head-is-table : head ≡ table) (well : failed before ≡ false) (long : length (written_bytes other before) ≡ length other) (size : spare.size ≡ length other) where
-    saved-all : HasSaved page_reads page_writes page_syncs old new mid_log table cut file start calls (d.more_log ++ log_calls) commits (1 + length commits) []
-    saved-all = saved-since reads writes syncs page_reads page_writes page_syncs table cut file start calls log_calls commits old mid new old_log mid_log d.more d.more_log d.did h
+  module _ (mid : OwnedView P) (mid_log : LogFile S) (d : TableGoes reads writes syncs page_reads page_writes page_syncs old mid old_log mid_log table cut file start calls log_calls commits records (λ after n left. (after ≡ commits) × (left ≡ []) × (n ≡ 1 + length commits)))
+      (h : HasSaved page_reads page_writes page_syncs mid new mid_log table cut file start (pages_in d.steps ++ calls) (log_in d.steps ++ log_calls) commits (1 + length commits) []) (alive : mid_log.is_ended ≡ false)
+      (at : P) (there : at ≡ new.port) (lsn : ℕ) (head : List ℕ) (lsn-is : lsn ≡ max mid_log.next 1) (head-is-table : head ≡ table) (well : failed before ≡ false) (long : length (written_bytes other before) ≡ length other) (size : spare.size ≡ length other) where
+    as_before : new.core.parameters ≡ old.core.parameters
+    as_before = h.parameters ∙ d.parameters
 
     at-next : lsn ≡ start + 1 + length commits
-    at-next = omega (arith, lsn-is, next-is reads writes syncs page_reads page_writes page_syncs table cut file start calls log_calls commits old mid new old_log mid_log d.more_log saved-all alive)
+    at-next = omega (arith, lsn-is, next-is table cut file start (h.more ++ (pages_in d.steps ++ calls)) (log_in d.steps ++ log_calls) commits new mid_log h.is alive)
 
-    begun-there : (good : Bool) (begun_log : LogFile S) → BeginsLog reads writes syncs spare begun_log lsn head good → BeginsLog reads writes syncs spare begun_log (start + 1 + length commits) table good
-    begun-there good begun_log b = subst (λ (n : ℕ). BeginsLog reads writes syncs spare begun_log n table good) at-next (subst (λ (t : List ℕ). BeginsLog reads writes syncs spare begun_log lsn t good) head-is-table b)
+    begun-there : (good : Bool) (begun_log : LogFile S) → BeginsLog (reads at) (writes at) (syncs at) spare begun_log lsn head good → BeginsLog (reads new.port) (writes new.port) (syncs new.port) spare begun_log (start + 1 + length commits) table good
+    begun-there good begun_log b =
+        subst (λ (x : P). BeginsLog (reads x) (writes x) (syncs x) spare begun_log (start + 1 + length commits) table good) there
+        (subst (λ (n : ℕ). BeginsLog (reads at) (writes at) (syncs at) spare begun_log n table good) at-next (subst (λ (t : List ℕ). BeginsLog (reads at) (writes at) (syncs at) spare begun_log lsn t good) head-is-table b))
 
-    pub does-move : (begun_log : LogFile S) → BeginsLog reads writes syncs spare begun_log lsn head true → new_log ≡ begun_log → new_spare ≡ mid_log → Does (Ok tt)
+    module _ (begun_log : LogFile S) (begun : List FileCall) (begun_did : FileDid (reads new.port) (writes new.port) (syncs new.port) spare.store begun begun_log.store)
+        (beginning : AtEach (λ so_far. Beginning other (start + 1 + length commits) table before (so_far ++ before)) begun) where
+      -- the calls until the other file was written
+      abbrev older : List Step
+      older = map OfPages h.more ++ d.steps
+
+      abbrev So : List Step → Type 0
+      So = IsMoving old.core.parameters table cut file start calls log_calls commits records other before
+
+      pages-older : pages_in older ++ calls ≡ h.more ++ (pages_in d.steps ++ calls)
+      pages-older = pages-more (map OfPages h.more) d.steps calls ∙ ap (λ (t : List DeviceCall). t ++ (pages_in d.steps ++ calls)) (of-pages h.more).0
+
+      log-older : log_in older ++ log_calls ≡ log_in d.steps ++ log_calls
+      log-older = log-more (map OfPages h.more) d.steps log_calls ∙ ap (λ (t : List FileCall). t ++ (log_in d.steps ++ log_calls)) (of-pages h.more).1
+
+      -- while pages are written out
+      abbrev Durably : List DeviceCall → List FileCall → Type 0
+      Durably cs fs = Stands old.core.parameters table cut file start cs fs commits commits records
+
+      early : AtEach So d.steps
+      early =
+          each-map (λ so_far. (spare_in so_far ≡ []) × Stands old.core.parameters table cut file start (pages_in so_far ++ calls) (log_in so_far ++ log_calls) commits d.commits records) So
+          (λ so_far s. staying s.0 (subst (λ (cs : List (List LogRecord)). Stands old.core.parameters table cut file start (pages_in so_far ++ calls) (log_in so_far ++ log_calls) commits cs records) d.is_so.0 s.1)) d.steps
+          (each-both (λ so_far. spare_in so_far ≡ []) (λ so_far. Stands old.core.parameters table cut file start (pages_in so_far ++ calls) (log_in so_far ++ log_calls) commits d.commits records) d.steps (never-spare d.steps d.no_spare) d.each)
+
+      flushing : AtEach (λ so_far. So (so_far ++ d.steps)) (map OfPages h.more)
+      flushing =
+          each-map (λ so_far. (spare_in so_far ≡ []) × Stands old.core.parameters table cut file start (pages_in so_far ++ (pages_in d.steps ++ calls)) (log_in so_far ++ (log_in d.steps ++ log_calls)) commits commits (1 + length commits)) (λ so_far. So (so_far ++ d.steps))
+          (λ so_far s. staying (spare-append so_far d.steps ∙ ap (λ (t : List FileCall). t ++ spare_in d.steps) s.0 ∙ d.no_spare)
+          (subst (λ (cs : List DeviceCall). Durably cs (log_in (so_far ++ d.steps) ++ log_calls)) (sym (pages-more so_far d.steps calls))
+          (subst (λ (fs : List FileCall). Durably (pages_in so_far ++ (pages_in d.steps ++ calls)) fs) (sym (log-more so_far d.steps log_calls))
+          (from-earlier old.core.parameters table cut file start (pages_in so_far ++ (pages_in d.steps ++ calls)) (log_in so_far ++ (log_in d.steps ++ log_calls)) commits commits commits [] records (1 + length commits) (sym (append-nil commits)) (let n = d.no_fewer in omega (arith, d.is_so.2)) s.1))))
+          (map OfPages h.more)
+          (each-both (λ so_far. spare_in so_far ≡ []) (λ so_far. Stands old.core.parameters table cut file start (pages_in so_far ++ (pages_in d.steps ++ calls)) (log_in so_far ++ (log_in d.steps ++ log_calls)) commits commits (1 + length commits)) (map OfPages h.more) (never-spare (map OfPages h.more) (of-pages h.more).2)
+          (each-page old.core.parameters table cut file start (not mid_log.is_ended) new.core.past new.core.past h.more (pages_in d.steps ++ calls) (log_in d.steps ++ log_calls) commits (1 + length commits) []
+          (subst (λ (c : Parameters). TableRan c table cut file start (not mid_log.is_ended) new.core.past new.core.past (h.more ++ (pages_in d.steps ++ calls)) (log_in d.steps ++ log_calls) commits (1 + length commits) []) as_before h.is.ran) (calls-since cut.past cut.calls mid.core.past (pages_in d.steps ++ calls) d.synced d.is.ran.pool)))
+
+      pages-then : (so_far : List Step) → pages_in so_far ≡ [] → pages_in (so_far ++ older) ++ calls ≡ h.more ++ (pages_in d.steps ++ calls)
+      pages-then so_far none = pages-more so_far older calls ∙ ap (λ (t : List DeviceCall). t ++ (pages_in older ++ calls)) none ∙ pages-older
+
+      log-then : (so_far : List Step) → log_in so_far ≡ [] → log_in (so_far ++ older) ++ log_calls ≡ log_in d.steps ++ log_calls
+      log-then so_far none = log-more so_far older log_calls ∙ ap (λ (t : List FileCall). t ++ (log_in older ++ log_calls)) none ∙ log-older
+
+      none-older : spare_in older ≡ []
+      none-older = spare-append (map OfPages h.more) d.steps ∙ ap (λ (t : List FileCall). t ++ spare_in d.steps) (of-pages h.more).2 ∙ d.no_spare
+
+      spare-then : (so_far : List Step) → spare_in (so_far ++ older) ≡ spare_in so_far
+      spare-then so_far = spare-append so_far older ∙ ap (λ (t : List FileCall). spare_in so_far ++ t) none-older ∙ append-nil (spare_in so_far)
+
+      -- while the next log is begun
+      late : AtEach (λ so_far. So (so_far ++ older)) (map OfSpare begun)
+      late =
+          each-map (λ so_far. Beginning other (start + 1 + length commits) table before (spare_in so_far ++ before) × (pages_in so_far ≡ []) × (log_in so_far ≡ [])) (λ so_far. So (so_far ++ older))
+          (λ so_far s. moving {alive = not mid_log.is_ended} {past = new.core.past}
+          (subst (λ (cs : List DeviceCall). TableRan old.core.parameters table cut file start (not mid_log.is_ended) new.core.past new.core.past cs (log_in (so_far ++ older) ++ log_calls) commits (1 + length commits) []) (sym (pages-then so_far s.1))
+          (subst (λ (fs : List FileCall). TableRan old.core.parameters table cut file start (not mid_log.is_ended) new.core.past new.core.past (h.more ++ (pages_in d.steps ++ calls)) fs commits (1 + length commits) []) (sym (log-then so_far s.2))
+          (subst (λ (c : Parameters). TableRan c table cut file start (not mid_log.is_ended) new.core.past new.core.past (h.more ++ (pages_in d.steps ++ calls)) (log_in d.steps ++ log_calls) commits (1 + length commits) []) as_before h.is.ran)))
+          h.saved
+          (subst (λ (fs : List FileCall). Beginning other (start + 1 + length commits) table before (fs ++ before)) (sym (spare-then so_far)) s.0))
+          (map OfSpare begun) (each-spare (λ so_far. Beginning other (start + 1 + length commits) table before (so_far ++ before)) begun beginning)
+
+      abbrev all : List Step
+      all = map OfSpare begun ++ older
+
+      moves-on : MovesOn reads writes syncs page_reads page_writes page_syncs old new old_log spare mid_log begun_log table cut file start calls log_calls commits records other before
+      moves-on = record {
+        steps = all;
+        parameters = as_before;
+        did =
+            made-append page_reads page_writes page_syncs reads writes syncs (record { port = old.port; log = old_log.store; spare = spare.store }) (record { port = new.port; log = mid_log.store; spare = spare.store }) (record { port = new.port; log = mid_log.store; spare = begun_log.store }) (map OfSpare begun) older
+            (made-append page_reads page_writes page_syncs reads writes syncs (record { port = old.port; log = old_log.store; spare = spare.store }) (record { port = mid.port; log = mid_log.store; spare = spare.store }) (record { port = new.port; log = mid_log.store; spare = spare.store }) (map OfPages h.more) d.steps
+            (d.did spare.store) (made-pages page_reads page_writes page_syncs reads writes syncs mid.port new.port mid_log.store spare.store h.more h.did))
+            (made-spare page_reads page_writes page_syncs reads writes syncs new.port mid_log.store spare.store begun_log.store begun begun_did);
+        each = each-append So (map OfSpare begun) older (each-append So (map OfPages h.more) d.steps early flushing) late;
+        is =
+            subst (λ (cs : List DeviceCall). IsTable table cut file start new.core.past cs (log_in all ++ log_calls) commits (1 + length commits) [] new mid_log) (sym (pages-then (map OfSpare begun) (of-spare begun).0))
+            (subst (λ (fs : List FileCall). IsTable table cut file start new.core.past (h.more ++ (pages_in d.steps ++ calls)) fs commits (1 + length commits) [] new mid_log) (sym (log-then (map OfSpare begun) (of-spare begun).1)) h.is);
+        saved = h.saved;
+      }
+
+      goes-on : IsLogFile other (start + 1 + length commits) (begun ++ before) (table ∷ []) 1 begun_log
+          → IsTable table (record { past = new.core.past; calls = pages_in all ++ calls; commits = cut.commits ++ commits }) other (start + 1 + length commits) new.core.past (pages_in all ++ calls) (spare_in all ++ before) [] 1 [] new begun_log
+      goes-on f =
+          subst (λ (cs : List DeviceCall). IsTable table (record { past = new.core.past; calls = cs; commits = cut.commits ++ commits }) other (start + 1 + length commits) new.core.past cs (spare_in all ++ before) [] 1 [] new begun_log) (sym (pages-then (map OfSpare begun) (of-spare begun).0))
+          (subst (λ (fs : List FileCall). IsTable table (record { past = new.core.past; calls = h.more ++ (pages_in d.steps ++ calls); commits = cut.commits ++ commits }) other (start + 1 + length commits) new.core.past (h.more ++ (pages_in d.steps ++ calls)) (fs ++ before) [] 1 [] new begun_log) (sym (spare-then (map OfSpare begun) ∙ (of-spare begun).2))
+          (next-table table cut file start (h.more ++ (pages_in d.steps ++ calls)) (log_in d.steps ++ log_calls) commits new mid_log h.is alive h.saved begun_log other (begun ++ before) f))
+
+    pub does-move : (begun_log : LogFile S) → BeginsLog (reads at) (writes at) (syncs at) spare begun_log lsn head true → new_log ≡ begun_log → new_spare ≡ mid_log → Does (Ok tt)
+    unfolding moves-on
     does-move begun_log b is spare_is =
         let k = begun-there true begun_log b other before well long size in
-        subst (λ (l : LogFile S). Checkpoints reads writes syncs page_reads page_writes page_syncs old new old_log l spare new_spare table cut file start calls log_calls commits other before (Ok tt)) (sym is)
-        (subst (λ (l : LogFile S). Checkpoints reads writes syncs page_reads page_writes page_syncs old new old_log begun_log spare l table cut file start calls log_calls commits other before (Ok tt)) (sym spare_is)
-        (moved (record {
-          more_log = d.more_log;
-          begun = k.0;
-          has_saved = saved-all;
-          log_did = d.log_did;
-          spare_did = k.1;
-          is = next-table reads writes syncs page_reads page_writes page_syncs table cut file start calls log_calls commits old mid new old_log mid_log d.more_log saved-all alive begun_log other (k.0 ++ before) (k.3 refl);
-        })))
+        subst (λ (l : LogFile S). Checkpoints reads writes syncs page_reads page_writes page_syncs old new old_log l spare new_spare table cut file start calls log_calls commits records other before (Ok tt)) (sym is)
+        (subst (λ (l : LogFile S). Checkpoints reads writes syncs page_reads page_writes page_syncs old new old_log begun_log spare l table cut file start calls log_calls commits records other before (Ok tt)) (sym spare_is)
+        (moved (moves-on begun_log k.0 k.1 k.2) (goes-on begun_log k.0 k.1 k.2 (k.3 refl))))
 
-    pub does-begin : BeginsLog reads writes syncs spare new_spare lsn head false → new_log ≡ mid_log → (why : TableFault) → Does (Err why)
+    pub does-begin : BeginsLog (reads at) (writes at) (syncs at) spare new_spare lsn head false → new_log ≡ mid_log → (why : TableFault) → Does (Err why)
     does-begin b is why =
         let k = begun-there false new_spare b other before well long size in
-        subst (λ (l : LogFile S). Checkpoints reads writes syncs page_reads page_writes page_syncs old new old_log l spare new_spare table cut file start calls log_calls commits other before (Err why)) (sym is)
-        (moving (record {
-          more_log = d.more_log;
-          begun = k.0;
-          has_saved = saved-all;
-          log_did = d.log_did;
-          spare_did = k.1;
-          beginning = k.2;
-        }))
+        subst (λ (l : LogFile S). Checkpoints reads writes syncs page_reads page_writes page_syncs old new old_log l spare new_spare table cut file start calls log_calls commits records other before (Err why)) (sym is)
+        (was_moving (moves-on new_spare k.0 k.1 k.2))

@@ -1,8 +1,10 @@
 pub mod PoolLives
 pub mod Tables
+pub mod Standing
 pub mod Tabling
 pub mod Openings
 pub mod Checkpoints
 pub mod Wholes
 pub mod Shut
 pub mod Sounding
+pub mod Stopping

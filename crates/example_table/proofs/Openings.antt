@@ -27,10 +27,18 @@ use Rattle.example_log.specs.Files.IsSettled.{settled as was_settled, again as s
 use Rattle.example_log.specs.Frames.{IsRecord, NoFrame, frame, frames}
 use Rattle.example_log.specs.Lives.{AreRecords, LogLife, Reopened, SameAt, TellsTrue}
 use Rattle.example_log.specs.Lives.Reopened.{ended}
-use Rattle.example_log.specs.LogFiles.{Begins, IsLogFile, IsUnread, Wipes, WipesFile}
+use Rattle.example_log.specs.LogFiles.{Begins, BeginsBy, IsLogFile, IsUnread, Settles, Wipes, WipesFile}
+use Rattle.example_log.specs.LogFiles.BeginsBy.{wiping as by_wiping, wiped as by_wiped, wrote as by_wrote, synced as by_synced}
+use Rattle.example_log.specs.Lives.LogLife.{wiped as was_wiped, appended, synced as was_synced, unsynced as not_synced}
+use Rattle.example_log.specs.Moments.{AtEach, Made, Step, log_in, pages_in, spare_in}
+use Rattle.example_log.specs.Moments.Step.{OfPages, OfLog, OfSpare}
+use Rattle.example_log.proofs.Moments.{each-append, each-map, each-of-log, each-of-pages, each-spare, log-append, made-append, made-log, made-pages, made-spare, of-log, of-pages, of-spare, pages-append, spare-append}
+use Rattle.example_log.proofs.LogFiles.{each-by}
+use Rattle.example_table.specs.Opening.IsOpening.{settling, redoing as redoing_it, beginning as beginning_it}
+use Rattle.example_table.specs.Opening.MovesLog.{unsettled, stopped, moved}
 use Rattle.example_log.specs.LogFiles.IsUnread.{no_memory, failed as failed_read}
 use Rattle.example_log.specs.LogFiles.Wipes.{nothing, wrote, unsynced}
-use Rattle.example_table.specs.Opening.{AreWithin, Beginning, BeginsBefore, BeginsLog, CreatesLog, EmptiesFile, IsEmptied, FindsLog, Found, IsNewer, IsOnlyRead, MayBeOpened, MoveFault, Moves, MovesLog, Redid, again_of}
+use Rattle.example_table.specs.Opening.{AreWithin, Beginning, BeginsBefore, BeginsLog, CreatesLog, EmptiesFile, IsEmptied, FindsLog, Found, IsNewer, IsInOrder, IsOnlyRead, IsOpening, MayBeOpened, MoveFault, Moves, MovesLog, Redid, again_of}
 use Rattle.example_table.specs.Opening.Beginning.{wiping, begun as was_begun}
 use Rattle.example_log.specs.Promise.{MayBeRedone, Recovers}
 use Rattle.example_log.proofs.CommitsRead.{head-is, head-same, payload-same, whole-commits}
@@ -132,21 +140,44 @@ begun-so : (first : List ℕ) (start : ℕ) (calls : List FileCall) (alive : Boo
     → Beginning first start table before calls
 begun-so first start calls alive table before log durable life is = was_begun life is ended
 
-beginning-of : {S : Type 0} (reads writes : Transfer S) (syncs : StoreSync S) (old new : LogFile S) (first : List ℕ) (start : ℕ) (before : List FileCall) (head : List ℕ) (good : Bool) → Begins reads writes syncs old new first start before head good
-    → (more : List FileCall) × FileDid reads writes syncs old.store more new.store × Beginning first start head before (more ++ before) × (good ≡ true → IsLogFile first start (more ++ before) (head ∷ []) 1 new)
-beginning-of reads writes syncs old new first start before head true g = (
-  g.more,
-  g.did,
-  begun-so first start (g.more ++ before) (not new.is_ended) head before g.log g.durable g.is.life (inr g.is_so.0),
-  λ e. subst (λ (n : ℕ). IsLogFile first start (g.more ++ before) (head ∷ []) n new) g.is_so.1 (subst (λ (xs : List (List ℕ)). IsLogFile first start (g.more ++ before) xs g.durable new) g.is_so.0 g.is),
-)
-beginning-of reads writes syncs old new first start before head false (inl w) = (w.0, w.1, wiping w.2, λ e. absurd (cc))
-beginning-of reads writes syncs old new first start before head false (inr g) = (g.more, g.did, begun-so first start (g.more ++ before) (not new.is_ended) head before g.log g.durable g.is.life g.is_so.0, λ e. absurd (cc))
+module _ (first : List ℕ) (start : ℕ) (table : List ℕ) (before : List FileCall) (well : failed before ≡ false) (long : length (written first before) ≡ length first) where
+  abbrev Begins_at : List FileCall → Type 0
+  Begins_at so_far = Beginning first start table before (so_far ++ before)
 
-pub begins-log : {S : Type 0} (reads writes : Transfer S) (syncs : StoreSync S) (old new : LogFile S) (start : ℕ) (table : List ℕ) (good : Bool)
-    → ((file : List ℕ) (before : List FileCall) → failed before ≡ false → length (written file before) ≡ length file → old.size ≡ length file → Begins reads writes syncs old new file start before table good)
-    → BeginsLog reads writes syncs old new start table good
-begins-log reads writes syncs old new start table good b = λ file before well long size. beginning-of reads writes syncs old new file start before table good (b file before well long size)
+  empty-life : LogLife first start true (Sync true ∷ Write 0 (replicate (length first) 0) true ∷ before) [] 0
+  empty-life = was_wiped well long
+
+  one-life : (good : Bool) → IsRecord start table → length (frame start table) ≤ length first → LogLife first start good (Write 0 (frame start table) good ∷ Sync true ∷ Write 0 (replicate (length first) 0) true ∷ before) (table ∷ []) 0
+  one-life good fit room =
+      let e : start ≡ start + 0 = omega arith in
+      subst (λ (n : ℕ). LogLife first start good (Write 0 (frame n table) good ∷ Sync true ∷ Write 0 (replicate (length first) 0) true ∷ before) (table ∷ []) 0) (sym e)
+      (appended table good empty-life (subst (λ (n : ℕ). IsRecord n table) e fit) (subst (λ (n : ℕ). 0 + length (frame n table) ≤ length first) e (omega arith)))
+
+  first-wipe : (calls : List FileCall) → Wipes (length first) calls → AtEach Begins_at calls
+  first-wipe _ nothing = wiping nothing
+  first-wipe _ (wrote good) = (wiping (wrote good), wiping nothing)
+  first-wipe _ unsynced = (wiping unsynced, (wiping (wrote true), wiping nothing))
+
+  wiped-each : AtEach Begins_at (Sync true ∷ Write 0 (replicate (length first) 0) true ∷ [])
+  wiped-each = (begun-so first start _ true table before [] 0 empty-life (inl refl), (wiping (wrote true), wiping nothing))
+
+  pub each-beginning : (calls : List FileCall) → BeginsBy (length first) start table calls → AtEach Begins_at calls
+  each-beginning _ (by_wiping {calls = calls} w) = first-wipe calls w
+  each-beginning _ by_wiped = wiped-each
+  each-beginning _ (by_wrote good fit room) = (begun-so first start _ good table before (table ∷ []) 0 (one-life good fit room) (inr refl), wiped-each)
+  each-beginning _ (by_synced good fit room) = (last good, (begun-so first start _ true table before (table ∷ []) 0 (one-life true fit room) (inr refl), wiped-each))
+    where
+      last : (good : Bool) → Begins_at (Sync good ∷ Write 0 (frame start table) true ∷ Sync true ∷ Write 0 (replicate (length first) 0) true ∷ [])
+      last true = begun-so first start _ true table before (table ∷ []) 1 (was_synced (one-life true fit room)) (inr refl)
+      last false = begun-so first start _ false table before (table ∷ []) 0 (not_synced (one-life true fit room)) (inr refl)
+
+pub begins-log : {S : Type 0} (reads writes : Transfer S) (syncs : StoreSync S) (old new : LogFile S) (start : ℕ) (table : List ℕ) (good : Bool) → Begins reads writes syncs old new start table good → BeginsLog reads writes syncs old new start table good
+begins-log reads writes syncs old new start table good b = λ file before well long size. (
+  b.calls,
+  b.did,
+  each-beginning file start table before well long b.calls (subst (λ (n : ℕ). BeginsBy n start table b.calls) size b.by),
+  λ e. b.is e file before well long size,
+)
 
 -- zeros have no record
 zeros-before : (begun count : ℕ) → BeginsBefore begun (replicate count 0)
@@ -435,7 +466,7 @@ beyond-as device table newer older pages size first last changes mid why has p s
     subst (λ w. MoveFault device table newer older (Pages w)) (sym h.0)
     (beyond has (λ w. h.1 (subst (AreWithin pages size) (sym same) (subst (λ (n : ℕ). AreWithin n size changes) (sym p) (subst (λ (n : ℕ). AreWithin device.pages n changes) (sym s) w)))))
 
-module _ {S P : Type 0} (reads writes : Transfer S) (syncs : StoreSync S) (page_reads : Reads P) (page_writes : Writes P) (page_syncs : Syncs P) (device : Geometry) (table newer older : List ℕ) (old new : P) (old_newer old_older new_newer new_older : LogFile S) where
+module _ {S P : Type 0} (reads writes : P → Transfer S) (syncs : P → StoreSync S) (page_reads : Reads P) (page_writes : Writes P) (page_syncs : Syncs P) (device : Geometry) (table newer older : List ℕ) (old new : P) (old_newer old_older new_newer new_older : LogFile S) where
   abbrev Moved : Result (Unit {0}) TableFault → Type 0
   Moved r = MovesLog reads writes syncs page_reads page_writes page_syncs device table newer older old old_newer old_older r new new_newer new_older
 
@@ -449,6 +480,102 @@ module _ {S P : Type 0} (reads writes : Transfer S) (syncs : StoreSync S) (page_
   refused-as (Ok x) why k h = absurd k
   refused-as (Err e) why k h = subst (λ w. Moved (Err w)) (sym k) h
 
+-- an opening's calls, one part after the other
+module _ {S P : Type 0} (reads writes : P → Transfer S) (syncs : P → StoreSync S) (page_reads : Reads P) (page_writes : Writes P) (page_syncs : Syncs P) (device : Geometry) (table newer older : List ℕ) (old : P) (old_newer old_older new_newer : LogFile S) (f : Found device table newer older)
+    (calls : List FileCall) (good : Bool) (did : FileDid (reads old) (writes old) (syncs old) old_newer.store calls new_newer.store) (settled : Settles (again_of f.is_newer) calls good) where
+  abbrev Opening : List Step → Type 0
+  Opening = IsOpening device (again_of f.is_newer) table f.changes (f.last + 1) old_older.size
+
+  abbrev Ordered : P → LogFile S → Type 0
+  Ordered new new_older = IsInOrder reads writes syncs page_reads page_writes page_syncs device (again_of f.is_newer) table f.changes (f.last + 1) old new old_newer new_newer old_older new_older
+
+  settle-each : AtEach Opening (map OfLog calls)
+  settle-each = each-of-log Opening calls (λ later so_far e. settling later (of-log so_far).0 (of-log so_far).2 settled (e ∙ ap (λ (t : List FileCall). later ++ t) (sym (of-log so_far).1)))
+
+  settle-did : Made page_reads page_writes page_syncs reads writes syncs (record { port = old; log = old_newer.store; spare = old_older.store }) (map OfLog calls) (record { port = old; log = new_newer.store; spare = old_older.store })
+  settle-did = made-log page_reads page_writes page_syncs reads writes syncs old old_newer.store new_newer.store old_older.store calls did
+
+  settle-order : Ordered old old_older
+  settle-order = record { steps = map OfLog calls; did = settle-did; each = settle-each }
+
+  pub was-unsettled : good ≡ false → (why : TableFault) → MovesLog reads writes syncs page_reads page_writes page_syncs device table newer older old old_newer old_older (Err why) old new_newer old_older
+  unfolding settle-order
+  was-unsettled bad why = unsettled f why settle-order ((of-log calls).0, (of-log calls).2) (subst (λ (b : Bool). Settles (again_of f.is_newer) (log_in (map OfLog calls)) b) bad (subst (λ (cs : List FileCall). Settles (again_of f.is_newer) cs good) (sym (of-log calls).1) settled))
+
+  module _ (well : good ≡ true) (new : P) (done : Bool) (r : Redid page_reads page_writes page_syncs device f.changes old done new) where
+    abbrev redo_steps : List DeviceCall → List Step
+    redo_steps cs = map OfPages cs ++ map OfLog calls
+
+    pages-are : (cs : List DeviceCall) → pages_in (map OfPages cs ++ map OfLog calls) ≡ cs
+    pages-are cs = pages-append (map OfPages cs) (map OfLog calls) ∙ ap (λ (t : List DeviceCall). t ++ pages_in (map OfLog calls)) (of-pages cs).0 ∙ ap (λ (t : List DeviceCall). cs ++ t) (of-log calls).0 ∙ append-nil cs
+
+    log-are : (cs : List DeviceCall) → log_in (map OfPages cs ++ map OfLog calls) ≡ calls
+    log-are cs = log-append (map OfPages cs) (map OfLog calls) ∙ ap (λ (t : List FileCall). t ++ log_in (map OfLog calls)) (of-pages cs).1 ∙ (of-log calls).1
+
+    spare-are : (cs : List DeviceCall) → spare_in (map OfPages cs ++ map OfLog calls) ≡ []
+    spare-are cs = spare-append (map OfPages cs) (map OfLog calls) ∙ ap (λ (t : List FileCall). t ++ spare_in (map OfLog calls)) (of-pages cs).2 ∙ (of-log calls).2
+
+    whole-settled : (cs : List FileCall) → cs ≡ calls → Settles (again_of f.is_newer) cs true
+    whole-settled cs e = subst (λ (b : Bool). Settles (again_of f.is_newer) cs b) well (subst (λ (fs : List FileCall). Settles (again_of f.is_newer) fs good) (sym e) settled)
+
+    redo-each : AtEach (λ so_far. Opening (so_far ++ map OfLog calls)) (map OfPages r.calls)
+    redo-each =
+        each-of-pages (λ so_far. Opening (so_far ++ map OfLog calls)) r.calls
+        (λ later so_far e. redoing_it later (spare-are so_far) (whole-settled (log_in (map OfPages so_far ++ map OfLog calls)) (log-are so_far)) r.recovers (e ∙ ap (λ (t : List DeviceCall). later ++ t) (sym (pages-are so_far))))
+
+    redo-did : Made page_reads page_writes page_syncs reads writes syncs (record { port = old; log = old_newer.store; spare = old_older.store }) (map OfPages r.calls ++ map OfLog calls) (record { port = new; log = new_newer.store; spare = old_older.store })
+    redo-did =
+        made-append page_reads page_writes page_syncs reads writes syncs (record { port = old; log = old_newer.store; spare = old_older.store }) (record { port = old; log = new_newer.store; spare = old_older.store }) (record { port = new; log = new_newer.store; spare = old_older.store }) (map OfPages r.calls) (map OfLog calls)
+        settle-did (made-pages page_reads page_writes page_syncs reads writes syncs old new new_newer.store old_older.store r.calls r.did)
+
+    redo-order : Ordered new old_older
+    redo-order = record { steps = map OfPages r.calls ++ map OfLog calls; did = redo-did; each = each-append Opening (map OfPages r.calls) (map OfLog calls) settle-each redo-each }
+
+    pub was-stopped : (why : TableFault) → MovesLog reads writes syncs page_reads page_writes page_syncs device table newer older old old_newer old_older (Err why) new new_newer old_older
+    unfolding redo-order
+    was-stopped why =
+        stopped f done why redo-order (spare-are r.calls) (whole-settled (log_in (map OfPages r.calls ++ map OfLog calls)) (log-are r.calls))
+        (subst (λ (cs : List DeviceCall). Recovers device.pages device.size 0 (reverse f.changes) cs done) (sym (pages-are r.calls)) r.recovers)
+
+    module _ (all_done : done ≡ true) (new_older : LogFile S) (is_begun : Bool) (b : Begins (reads new) (writes new) (syncs new) old_older new_older (f.last + 1) table is_begun) where
+      abbrev since : List Step
+      since = map OfPages r.calls ++ map OfLog calls
+
+      whole-redone : (cs : List DeviceCall) → cs ≡ r.calls → Recovers device.pages device.size 0 (reverse f.changes) cs true
+      whole-redone cs e = subst (λ (d : Bool). Recovers device.pages device.size 0 (reverse f.changes) cs d) all_done (subst (λ (xs : List DeviceCall). Recovers device.pages device.size 0 (reverse f.changes) xs done) (sym e) r.recovers)
+
+      pages-then : (so_far : List Step) → pages_in so_far ≡ [] → pages_in (so_far ++ since) ≡ r.calls
+      pages-then so_far none = pages-append so_far since ∙ ap (λ (t : List DeviceCall). t ++ pages_in since) none ∙ pages-are r.calls
+
+      log-then : (so_far : List Step) → log_in so_far ≡ [] → log_in (so_far ++ since) ≡ calls
+      log-then so_far none = log-append so_far since ∙ ap (λ (t : List FileCall). t ++ log_in since) none ∙ log-are r.calls
+
+      spare-then : (so_far : List Step) → spare_in (so_far ++ since) ≡ spare_in so_far
+      spare-then so_far = spare-append so_far since ∙ ap (λ (t : List FileCall). spare_in so_far ++ t) (spare-are r.calls) ∙ append-nil (spare_in so_far)
+
+      begin-each : AtEach (λ so_far. Opening (so_far ++ since)) (map OfSpare b.calls)
+      begin-each =
+          each-map (λ so_far. BeginsBy old_older.size (f.last + 1) table (spare_in so_far) × (pages_in so_far ≡ []) × (log_in so_far ≡ [])) (λ so_far. Opening (so_far ++ since))
+          (λ so_far s. beginning_it (whole-settled (log_in (so_far ++ since)) (log-then so_far s.2)) (whole-redone (pages_in (so_far ++ since)) (pages-then so_far s.1)) (subst (BeginsBy old_older.size (f.last + 1) table) (sym (spare-then so_far)) s.0))
+          (map OfSpare b.calls) (each-spare (BeginsBy old_older.size (f.last + 1) table) b.calls (each-by old_older.size (f.last + 1) table b.calls b.by))
+
+      begin-order : Ordered new new_older
+      begin-order = record {
+        steps = map OfSpare b.calls ++ since;
+        did =
+            made-append page_reads page_writes page_syncs reads writes syncs (record { port = old; log = old_newer.store; spare = old_older.store }) (record { port = new; log = new_newer.store; spare = old_older.store }) (record { port = new; log = new_newer.store; spare = new_older.store }) (map OfSpare b.calls) since
+            redo-did (made-spare page_reads page_writes page_syncs reads writes syncs new new_newer.store old_older.store new_older.store b.calls b.did);
+        each = each-append Opening (map OfSpare b.calls) since (each-append Opening (map OfPages r.calls) (map OfLog calls) settle-each redo-each) begin-each;
+      }
+
+      pub was-moved : (result : Result (Unit {0}) TableFault) → is_ok result ≡ is_begun → MovesLog reads writes syncs page_reads page_writes page_syncs device table newer older old old_newer old_older result new new_newer new_older
+      unfolding begin-order
+      was-moved result told =
+          let none : spare_in (map OfSpare b.calls ++ since) ≡ b.calls = spare-then (map OfSpare b.calls) ∙ (of-spare b.calls).2 in
+          moved f result begin-order (whole-settled (log_in (map OfSpare b.calls ++ since)) (log-then (map OfSpare b.calls) (of-spare b.calls).1)) (whole-redone (pages_in (map OfSpare b.calls ++ since)) (pages-then (map OfSpare b.calls) (of-spare b.calls).0))
+          (subst (BeginsBy old_older.size (f.last + 1) table) (sym none) b.by)
+          (λ ok file before well long size. subst (λ (fs : List FileCall). IsLogFile file (f.last + 1) (fs ++ before) (table ∷ []) 1 new_older) (sym none) (b.is (sym told ∙ ok) file before well long size))
+
 module _ {S : Type 0} (reads writes : Transfer S) (syncs : StoreSync S) (old new : LogFile S) where
   pub was-unread : (why : LogFault) → IsUnread reads old.store new.store why → IsOnlyRead reads writes syncs old new
   was-unread _ (no_memory same) = ([], same, tt)
@@ -457,8 +584,8 @@ module _ {S : Type 0} (reads writes : Transfer S) (syncs : StoreSync S) (old new
   pub was-read : (bytes : List ℕ) → reads old.store 0 bytes true new.store → IsOnlyRead reads writes syncs old new
   was-read bytes h = (Read 0 bytes true ∷ [], (old.store, refl, h), tt)
 
-module _ {S P : Type 0} (reads writes : Transfer S) (syncs : StoreSync S) (page_reads : Reads P) (page_writes : Writes P) (page_syncs : Syncs P) (device : Geometry) (table : List ℕ) (old new : P) (newer older mid_newer mid_older new_newer new_older : LogFile S)
-    (passed a b bytes other : List ℕ) (same : passed ≡ table) (same_a : bytes ≡ a) (same_b : other ≡ b) (read_a : reads newer.store 0 a true mid_newer.store) (read_b : reads older.store 0 b true mid_older.store)
+module _ {S P : Type 0} (reads writes : P → Transfer S) (syncs : P → StoreSync S) (page_reads : Reads P) (page_writes : Writes P) (page_syncs : Syncs P) (device : Geometry) (table : List ℕ) (old new : P) (newer older mid_newer mid_older new_newer new_older : LogFile S)
+    (passed a b bytes other : List ℕ) (same : passed ≡ table) (same_a : bytes ≡ a) (same_b : other ≡ b) (read_a : reads old newer.store 0 a true mid_newer.store) (read_b : reads old older.store 0 b true mid_older.store)
     (long_a : length a ≡ newer.size) (long_b : length b ≡ older.size) (kept_a : mid_newer.size ≡ newer.size) (kept_b : mid_older.size ≡ older.size) where
   abbrev MovesTo : Result (Unit {0}) TableFault → Type 0
   MovesTo outcome = mid_newer.size ≡ length bytes → MovesLog reads writes syncs page_reads page_writes page_syncs device passed bytes other old mid_newer mid_older outcome new new_newer new_older
@@ -474,8 +601,8 @@ module _ {S P : Type 0} (reads writes : Transfer S) (syncs : StoreSync S) (page_
         mid_newer = mid_newer;
         mid_older = mid_older;
         outcome = outcome;
-        read_newer = subst (λ (t : List ℕ). reads newer.store 0 t true mid_newer.store) (sym same_a) read_a;
-        read_older = subst (λ (t : List ℕ). reads older.store 0 t true mid_older.store) (sym same_b) read_b;
+        read_newer = subst (λ (t : List ℕ). reads old newer.store 0 t true mid_newer.store) (sym same_a) read_a;
+        read_older = subst (λ (t : List ℕ). reads old older.store 0 t true mid_older.store) (sym same_b) read_b;
         size = (size_b, size_a);
         moves = subst (λ (t : List ℕ). MovesLog reads writes syncs page_reads page_writes page_syncs device t bytes other old mid_newer mid_older outcome new new_newer new_older) same (h size_a);
         told = told;

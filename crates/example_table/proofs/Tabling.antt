@@ -1,5 +1,5 @@
 -- What each call of a table adds to it.
-use Rattle.std.proofs.Common.{◌≡◌, inl, inr, refl, sym, ap, subst, ◌∙◌, ℕ, max, ◌+◌, ◌<◌, ◌≤◌, Bool, true, false, not, cond, ◌==◌, ◌&&◌, ◌||◌, List, [], ◌∷◌, ◌++◌, length, take, drop, get_or, reverse, map, filter_map, Option, None, append_assoc, arith}
+use Rattle.std.proofs.Common.{◌≡◌, inl, inr, refl, sym, ap, subst, ◌∙◌, ℕ, max, ◌+◌, ◌<◌, ◌≤◌, Bool, true, false, not, cond, ◌==◌, ◌&&◌, ◌||◌, List, [], ◌∷◌, ◌++◌, length, take, drop, get_or, reverse, map, filter_map, Option, None, append_assoc, append-nil, arith}
 use Rattle.std.specs.Prelude.{◌⊎◌, Result, Ok, Err, OnOk}
 use Rattle.std.specs.Result.{IsErr}
 use Rattle.std.proofs.lemmas.Bool.{cases_lt, or_parts}
@@ -40,12 +40,16 @@ use Rattle.example_log.specs.declared.log.LogFile.{LogFile}
 use Rattle.example_log.specs.Commits.{IsChange, change_bytes, AreChanges, changes_of, log_of, payload_of}
 use Rattle.example_log.specs.Disk.{DeviceCall, Reads, Writes, Syncs, Did, sync_failed}
 use Rattle.example_log.specs.Disk.DeviceCall.{Read as DeviceRead, NotRead as DeviceNotRead, Write as DeviceWrite}
-use Rattle.example_log.specs.Files.{FileCall}
+use Rattle.example_log.specs.Files.{FileCall, FileDid}
+use Rattle.example_log.specs.Moments.{AtEach, Made, Step, log_in, pages_in, spare_in}
+use Rattle.example_log.specs.Moments.Step.{OfPages, OfLog}
+use Rattle.example_log.proofs.Moments.{each-append, each-first, each-map, log-more, made-append, made-log, made-pages, of-log, of-pages, pages-append, pages-more, spare-append}
+use Rattle.example_table.proofs.Standing.{calls-since, each-page, from-earlier, grown-by, stands-now, till-later}
 use Rattle.example_log.specs.LogFiles.{IsLogFile, GoesOn}
 use Rattle.example_table.specs.PoolLives.{PoolFrom, ends_work}
 use Rattle.example_table.specs.PoolLives.PoolFrom.{opened, entered, read, not_read, wrote}
 use Rattle.example_table.specs.Images.{FirstsAreFull}
-use Rattle.example_table.specs.Tables.{Cut, no_cut, writes_of}
+use Rattle.example_table.specs.Tables.{Cut, Stands, TableRan, no_cut, writes_of}
 use Rattle.example_log.specs.declared.log.LogFault.{LogFault}
 use Rattle.example_log.specs.declared.log.LogFault.TheVariants.{Device as FileFailed}
 use Rattle.example_table.specs.declared.table.TableFault.TheVariants.{Log, Pages}
@@ -55,8 +59,6 @@ use Rattle.example_table.specs.TableCalls.{IsTable, TableGoes, under}
 use Rattle.example_log.proofs.CommitsRead.{commits-push, changes_of-push, changes-push, payload-push}
 use Rattle.example_log.specs.Lives.{LogLife}
 use Rattle.example_log.proofs.Lives.{life-is}
-use Rattle.example_log.proofs.LogFiles.{file-did-append}
-use Rattle.example_log.proofs.Redoing.{did-append}
 
 -- ---- entries that write, mark and discard nothing
 
@@ -147,41 +149,77 @@ module _ {P : Type 0} (reads : Reads P) (writes : Writes P) (syncs : Syncs P) (b
 
 -- ---- the calls of a table, one after the other
 
-module _ {S P : Type 0} (reads writes : Transfer S) (syncs : StoreSync S) (page_reads : Reads P) (page_writes : Writes P) (page_syncs : Syncs P) (table : List ℕ) (cut : Cut) (file : List ℕ) (start : ℕ) where
-  abbrev Goes : OwnedView P → OwnedView P → LogFile S → LogFile S → List DeviceCall → List FileCall → (List (List LogRecord) → ℕ → List LogRecord → Type 0) → Type 0
-  Goes old new old_log new_log calls log_calls so = TableGoes reads writes syncs page_reads page_writes page_syncs old new old_log new_log table cut file start calls log_calls so
+module _ {S P : Type 0} (reads writes : P → Transfer S) (syncs : P → StoreSync S) (page_reads : Reads P) (page_writes : Writes P) (page_syncs : Syncs P) (table : List ℕ) (cut : Cut) (file : List ℕ) (start : ℕ) where
+  abbrev Goes : OwnedView P → OwnedView P → LogFile S → LogFile S → List DeviceCall → List FileCall → List (List LogRecord) → ℕ → (List (List LogRecord) → ℕ → List LogRecord → Type 0) → Type 0
+  Goes old new old_log new_log calls log_calls before records so = TableGoes reads writes syncs page_reads page_writes page_syncs old new old_log new_log table cut file start calls log_calls before records so
 
-  pub table-then : (old mid new : OwnedView P) (old_log mid_log new_log : LogFile S) (calls : List DeviceCall) (log_calls : List FileCall) (A B : List (List LogRecord) → ℕ → List LogRecord → Type 0)
-      → (g : Goes old mid old_log mid_log calls log_calls A) → Goes mid new mid_log new_log (g.more ++ calls) (g.more_log ++ log_calls) B → Goes old new old_log new_log calls log_calls B
-  table-then old mid new old_log mid_log new_log calls log_calls A B g h = record {
-    more = h.more ++ g.more;
-    more_log = h.more_log ++ g.more_log;
-    synced = h.synced;
-    commits = h.commits;
-    durable = h.durable;
-    pending = h.pending;
-    parameters = h.parameters ∙ g.parameters;
-    did = did-append page_reads page_writes page_syncs old.port mid.port new.port h.more g.more g.did h.did;
-    log_did = file-did-append reads writes syncs old_log.store mid_log.store new_log.store h.more_log g.more_log g.log_did h.log_did;
-    is =
-        subst (λ (cs : List DeviceCall). IsTable table cut file start h.synced cs ((h.more_log ++ g.more_log) ++ log_calls) h.commits h.durable h.pending new new_log) (sym (append_assoc h.more g.more calls))
-        (subst (λ (cs : List FileCall). IsTable table cut file start h.synced (h.more ++ (g.more ++ calls)) cs h.commits h.durable h.pending new new_log) (sym (append_assoc h.more_log g.more_log log_calls)) h.is);
-    is_so = h.is_so;
-  }
+  module _ (old mid new : OwnedView P) (old_log mid_log new_log : LogFile S) (calls : List DeviceCall) (log_calls : List FileCall) {commits : List (List LogRecord)} {records : ℕ} (A B : List (List LogRecord) → ℕ → List LogRecord → Type 0) (g : Goes old mid old_log mid_log calls log_calls commits records A) where
+    pub table-next : (from : List (List LogRecord)) (count : ℕ) → from ≡ g.commits → count ≡ g.durable → Goes mid new mid_log new_log (pages_in g.steps ++ calls) (log_in g.steps ++ log_calls) from count B → Goes old new old_log new_log calls log_calls commits records B
+    table-next from count same same_count h = record {
+      steps = h.steps ++ g.steps;
+      synced = h.synced;
+      commits = h.commits;
+      durable = h.durable;
+      pending = h.pending;
+      parameters = h.parameters ∙ g.parameters;
+      no_spare = spare-append h.steps g.steps ∙ ap (λ (t : List FileCall). t ++ spare_in g.steps) h.no_spare ∙ g.no_spare;
+      did = λ spare. made-append page_reads page_writes page_syncs reads writes syncs (record { port = old.port; log = old_log.store; spare = spare }) (record { port = mid.port; log = mid_log.store; spare = spare }) (record { port = new.port; log = new_log.store; spare = spare }) h.steps g.steps (g.did spare) (h.did spare);
+      each = each-append So h.steps g.steps (each-map First So till g.steps g.each) (each-map Second (λ so_far. So (so_far ++ g.steps)) since h.steps h.each);
+      no_fewer = (let a = g.no_fewer in let b = h.no_fewer in omega (arith, same_count));
+      is =
+          subst (λ (cs : List DeviceCall). IsTable table cut file start h.synced cs (log_in (h.steps ++ g.steps) ++ log_calls) h.commits h.durable h.pending new new_log) (sym (pages-more h.steps g.steps calls))
+          (subst (λ (cs : List FileCall). IsTable table cut file start h.synced (pages_in h.steps ++ (pages_in g.steps ++ calls)) cs h.commits h.durable h.pending new new_log) (sym (log-more h.steps g.steps log_calls)) h.is);
+      is_so = h.is_so;
+    }
+      where
+        c : Parameters
+        c = old.core.parameters
+
+        So : List Step → Type 0
+        So so_far = Stands old.core.parameters table cut file start (pages_in so_far ++ calls) (log_in so_far ++ log_calls) commits h.commits records
+
+        First : List Step → Type 0
+        First so_far = Stands old.core.parameters table cut file start (pages_in so_far ++ calls) (log_in so_far ++ log_calls) commits g.commits records
+
+        Second : List Step → Type 0
+        Second so_far = Stands mid.core.parameters table cut file start (pages_in so_far ++ (pages_in g.steps ++ calls)) (log_in so_far ++ (log_in g.steps ++ log_calls)) from h.commits count
+
+        later : (x : List (List LogRecord)) × (h.commits ≡ from ++ x)
+        later = grown-by mid.core.parameters table cut file start (pages_in g.steps ++ calls) (log_in g.steps ++ log_calls) from h.commits count (each-first Second h.steps h.each)
+
+        added : (x : List (List LogRecord)) × (g.commits ≡ commits ++ x)
+        added = grown-by old.core.parameters table cut file start calls log_calls commits g.commits records (each-first First g.steps g.each)
+
+        till : (so_far : List Step) → First so_far → So so_far
+        till so_far s = till-later old.core.parameters table cut file start (pages_in so_far ++ calls) (log_in so_far ++ log_calls) commits g.commits h.commits later.0 records (later.1 ∙ ap (λ (t : List (List LogRecord)). t ++ later.0) same) s
+
+        since : (so_far : List Step) → Second so_far → So (so_far ++ g.steps)
+        since so_far s =
+            from-earlier old.core.parameters table cut file start (pages_in (so_far ++ g.steps) ++ calls) (log_in (so_far ++ g.steps) ++ log_calls) commits from h.commits added.0 records count (same ∙ added.1) (let a = g.no_fewer in omega (arith, same_count))
+            (subst (λ (cs : List DeviceCall). Stands old.core.parameters table cut file start cs (log_in (so_far ++ g.steps) ++ log_calls) from h.commits count) (sym (pages-more so_far g.steps calls))
+            (subst (λ (cs : List FileCall). Stands old.core.parameters table cut file start (pages_in so_far ++ (pages_in g.steps ++ calls)) cs from h.commits count) (sym (log-more so_far g.steps log_calls))
+            (subst (λ (x : Parameters). Stands x table cut file start (pages_in so_far ++ (pages_in g.steps ++ calls)) (log_in so_far ++ (log_in g.steps ++ log_calls)) from h.commits count) g.parameters s)))
+
+    pub table-then : Goes mid new mid_log new_log (pages_in g.steps ++ calls) (log_in g.steps ++ log_calls) g.commits g.durable B → Goes old new old_log new_log calls log_calls commits records B
+    table-then h = table-next g.commits g.durable refl refl h
 
   module _ (synced : Trail) (calls : List DeviceCall) (log_calls : List FileCall) (commits : List (List LogRecord)) (records : ℕ) (pending : List LogRecord) (old : OwnedView P) (old_log : LogFile S)
       (is : IsTable table cut file start synced calls log_calls commits records pending old old_log) where
-    pub table-stays : (so : List (List LogRecord) → ℕ → List LogRecord → Type 0) → so commits records pending → Goes old old old_log old_log calls log_calls so
+    now : Stands old.core.parameters table cut file start calls log_calls commits commits records
+    now = stands-now old.core.parameters table cut file start (not old_log.is_ended) old.core.past synced calls log_calls commits records pending is.ran
+
+    pub table-stays : (so : List (List LogRecord) → ℕ → List LogRecord → Type 0) → so commits records pending → Goes old old old_log old_log calls log_calls commits records so
     table-stays so p = record {
-      more = [];
-      more_log = [];
+      steps = [];
       synced = synced;
       commits = commits;
       durable = records;
       pending = pending;
       parameters = refl;
-      did = refl;
-      log_did = refl;
+      no_spare = refl;
+      did = λ spare. refl;
+      each = now;
+      no_fewer = omega arith;
       is = is;
       is_so = p;
     }
@@ -189,83 +227,117 @@ module _ {S P : Type 0} (reads writes : Transfer S) (syncs : StoreSync S) (page_
     count : records ≤ 1 + length commits
     count = let l = life-is file start (not old_log.is_ended) log_calls (log_of table commits) records is.ran.log in omega (arith, l.count, length-map commits payload_of)
 
+    -- The log made one call, or none, and has now so many records, and commits.
+    pub log-goes : (at : P) → at ≡ old.port → (new_log : LogFile S) (after x : List (List LogRecord)) (count_now : ℕ) (left : List LogRecord) (Q : List (List ℕ) → ℕ → Type 0) (so : List (List LogRecord) → ℕ → List LogRecord → Type 0) → after ≡ commits ++ x → records ≤ count_now
+        → (g : GoesOn (reads at) (writes at) (syncs at) old_log new_log file start log_calls Q) → IsTable table cut file start synced calls (g.more ++ log_calls) after count_now left old new_log → so after count_now left
+        → Goes old old old_log new_log calls log_calls commits records so
+    log-goes at there new_log after x count_now left Q so grown fewer g is_now p = record {
+      steps = map OfLog g.more;
+      synced = synced;
+      commits = after;
+      durable = count_now;
+      pending = left;
+      parameters = refl;
+      no_spare = (of-log g.more).2;
+      did = λ spare. made-log page_reads page_writes page_syncs reads writes syncs old.port old_log.store new_log.store spare g.more (subst (λ (port : P). FileDid (reads port) (writes port) (syncs port) old_log.store g.more new_log.store) there g.did);
+      each = go g.more g.one is_now;
+      no_fewer = fewer;
+      is =
+          subst (λ (cs : List DeviceCall). IsTable table cut file start synced (cs ++ calls) (log_in (map OfLog g.more) ++ log_calls) after count_now left old new_log) (sym (of-log g.more).0)
+          (subst (λ (fs : List FileCall). IsTable table cut file start synced calls (fs ++ log_calls) after count_now left old new_log) (sym (of-log g.more).1) is_now);
+      is_so = p;
+    }
+      where
+        So : List Step → Type 0
+        So so_far = Stands old.core.parameters table cut file start (pages_in so_far ++ calls) (log_in so_far ++ log_calls) commits after records
+
+        first : So []
+        first = till-later old.core.parameters table cut file start calls log_calls commits commits after x records grown now
+
+        go : (more : List FileCall) → length more ≤ 1 → IsTable table cut file start synced calls (more ++ log_calls) after count_now left old new_log → AtEach So (map OfLog more)
+        go [] one is_now = first
+        go (call ∷ []) one is_now = (
+          from-earlier old.core.parameters table cut file start calls (call ∷ log_calls) commits after after x records count_now grown fewer (stands-now old.core.parameters table cut file start (not new_log.is_ended) old.core.past synced calls (call ∷ log_calls) after count_now left is_now.ran),
+          first,
+        )
+        go (call ∷ other ∷ more) one is_now = absurd (omega arith)
+
     -- the log was synced
-    pub log-syncs : (new_log : LogFile S) (good : Bool) → old_log.is_ended ≡ false → GoesOn reads writes syncs old_log new_log file start log_calls (λ after n. (after ≡ log_of table commits) × ((good ≡ true → n ≡ length (log_of table commits)) × (good ≡ false → n ≡ records)))
-        → Goes old old old_log new_log calls log_calls (λ after n left. (after ≡ commits) × (left ≡ pending) × (good ≡ true → n ≡ 1 + length commits))
-    log-syncs new_log good alive g = go good g.is_so.1
+    pub log-syncs : (at : P) → at ≡ old.port → (new_log : LogFile S) (good : Bool) → old_log.is_ended ≡ false → GoesOn (reads at) (writes at) (syncs at) old_log new_log file start log_calls (λ after n. (after ≡ log_of table commits) × ((good ≡ true → n ≡ length (log_of table commits)) × (good ≡ false → n ≡ records)))
+        → Goes old old old_log new_log calls log_calls commits records (λ after n left. (after ≡ commits) × (left ≡ pending) × (good ≡ true → n ≡ 1 + length commits))
+    log-syncs at there new_log good alive g = go good g.is_so.1
       where
         size : length (log_of table commits) ≡ 1 + length commits
         size = omega (arith, length-map commits payload_of)
 
-        go : (b : Bool) → (b ≡ true → g.durable ≡ length (log_of table commits)) × (b ≡ false → g.durable ≡ records) → Goes old old old_log new_log calls log_calls (λ after n left. (after ≡ commits) × (left ≡ pending) × (b ≡ true → n ≡ 1 + length commits))
-        go b n = record {
-          more = [];
-          more_log = g.more;
-          synced = synced;
-          commits = commits;
-          durable = g.durable;
-          pending = pending;
-          parameters = refl;
-          did = refl;
-          log_did = g.did;
-          is = record {
-            ran = record {
-              log = subst (λ (xs : List (List ℕ)). LogLife file start (not new_log.is_ended) (g.more ++ log_calls) xs g.durable) g.is_so.0 g.is.life;
-              are = is.ran.are;
-              legal = is.ran.legal;
-              cut_is = is.ran.cut_is;
-              pool = is.ran.pool;
-              unfailed = λ yes. is.ran.unfailed (ap not alive);
-              written = is.ran.written;
-              mark = (let m = is.ran.mark in let k = count in let more = at-least b n in omega arith);
-              named = (let m = is.ran.named in let more = at-least b n in omega arith);
-              kept = is.ran.kept;
-              full = is.ran.full;
-            };
-            file_is = subst (λ (xs : List (List ℕ)). IsLogFile file start (g.more ++ log_calls) xs g.durable new_log) g.is_so.0 g.is;
+        go : (b : Bool) → (b ≡ true → g.durable ≡ length (log_of table commits)) × (b ≡ false → g.durable ≡ records) → Goes old old old_log new_log calls log_calls commits records (λ after n left. (after ≡ commits) × (left ≡ pending) × (b ≡ true → n ≡ 1 + length commits))
+        go b n = log-goes at there new_log commits [] g.durable pending (λ after n. (after ≡ log_of table commits) × ((good ≡ true → n ≡ length (log_of table commits)) × (good ≡ false → n ≡ records))) (λ after n left. (after ≡ commits) × (left ≡ pending) × (b ≡ true → n ≡ 1 + length commits)) (sym (append-nil commits)) (at-least b n) g (record {
+          ran = record {
+            log = subst (λ (xs : List (List ℕ)). LogLife file start (not new_log.is_ended) (g.more ++ log_calls) xs g.durable) g.is_so.0 g.is.life;
+            are = is.ran.are;
+            legal = is.ran.legal;
+            cut_is = is.ran.cut_is;
+            pool = is.ran.pool;
+            unfailed = λ yes. is.ran.unfailed (ap not alive);
+            written = is.ran.written;
+            mark = (let m = is.ran.mark in let k = count in let more = at-least b n in omega arith);
+            named = (let m = is.ran.named in let more = at-least b n in omega arith);
+            kept = is.ran.kept;
+            full = is.ran.full;
           };
-          is_so = (refl, refl, λ e. n.0 e ∙ size);
-        }
+          file_is = subst (λ (xs : List (List ℕ)). IsLogFile file start (g.more ++ log_calls) xs g.durable new_log) g.is_so.0 g.is;
+        }) (refl, refl, λ e. n.0 e ∙ size)
           where
             at-least : (b : Bool) → (b ≡ true → g.durable ≡ length (log_of table commits)) × (b ≡ false → g.durable ≡ records) → records ≤ g.durable
             at-least true n = let e = n.0 refl in let k = count in omega (arith, size)
             at-least false n = let e = n.1 refl in omega arith
 
-    -- the pool's entries became more
-    pub pool-goes : (new : OwnedView P) (more : List DeviceCall) (left : List LogRecord) (so : List (List LogRecord) → ℕ → List LogRecord → Type 0)
-        → new.core.parameters ≡ old.core.parameters → Legal new.core.parameters new.core.past → PoolFrom cut.past cut.calls new.core.past (more ++ calls) synced → (not old_log.is_ended ≡ true → some sync_failed (more ++ calls) ≡ false) → Did page_reads page_writes page_syncs old.port more new.port
-        → reverse (changes_of (cut.commits ++ commits)) ≡ left ++ writes_of new.core.past
-        → durable new.core.past < start + records → ((p : ℕ) → some (discards p) new.core.past ≡ false) → so commits records left → Goes old new old_log old_log calls log_calls so
-    pool-goes new more left so same legal life unfailed did told mark kept p = record {
-      more = more;
-      more_log = [];
-      synced = synced;
+    -- the pool had its device make calls, while the file of the log was as it is
+    pub pool-went : (new : OwnedView P) (new_log : LogFile S) (more : List DeviceCall) (left : List LogRecord) (settled : Trail) (so : List (List LogRecord) → ℕ → List LogRecord → Type 0) → new.core.parameters ≡ old.core.parameters → new_log.store ≡ old_log.store
+        → Did page_reads page_writes page_syncs old.port more new.port → IsTable table cut file start settled (more ++ calls) log_calls commits records left new new_log → so commits records left → Goes old new old_log new_log calls log_calls commits records so
+    pool-went new new_log more left settled so same store did there p = record {
+      steps = map OfPages more;
+      synced = settled;
       commits = commits;
       durable = records;
       pending = left;
       parameters = same;
-      did = did;
-      log_did = refl;
-      is = record {
-        ran = record {
-          log = is.ran.log;
-          are = is.ran.are;
-          legal = legal;
-          cut_is = is.ran.cut_is;
-          pool = life;
-          unfailed = unfailed;
-          written = told;
-          mark = mark;
-          named = is.ran.named;
-          kept = kept;
-          full = subst (λ (c : Parameters). FirstsAreFull c.size (reverse (changes_of commits))) (sym same) is.ran.full;
-        };
-        file_is = is.file_is;
-      };
+      no_spare = (of-pages more).2;
+      did = λ spare. subst (λ (x : S). Made page_reads page_writes page_syncs reads writes syncs (record { port = old.port; log = old_log.store; spare = spare }) (map OfPages more) (record { port = new.port; log = x; spare = spare })) (sym store) (made-pages page_reads page_writes page_syncs reads writes syncs old.port new.port old_log.store spare more did);
+      each =
+          each-page old.core.parameters table cut file start (not new_log.is_ended) new.core.past settled more calls log_calls commits records left
+          (subst (λ (c : Parameters). TableRan c table cut file start (not new_log.is_ended) new.core.past settled (more ++ calls) log_calls commits records left) same there.ran) (calls-since cut.past cut.calls old.core.past calls synced is.ran.pool);
+      no_fewer = omega arith;
+      is =
+          subst (λ (cs : List DeviceCall). IsTable table cut file start settled (cs ++ calls) (log_in (map OfPages more) ++ log_calls) commits records left new new_log) (sym (of-pages more).0)
+          (subst (λ (fs : List FileCall). IsTable table cut file start settled (more ++ calls) (fs ++ log_calls) commits records left new new_log) (sym (of-pages more).1) there);
       is_so = p;
     }
 
-    pub pool-same : (new : OwnedView P) (so : List (List LogRecord) → ℕ → List LogRecord → Type 0) → new.core ≡ old.core → new.port ≡ old.port → so commits records pending → Goes old new old_log old_log calls log_calls so
+    -- the pool's entries became more
+    pub pool-goes : (new : OwnedView P) (more : List DeviceCall) (left : List LogRecord) (so : List (List LogRecord) → ℕ → List LogRecord → Type 0)
+        → new.core.parameters ≡ old.core.parameters → Legal new.core.parameters new.core.past → PoolFrom cut.past cut.calls new.core.past (more ++ calls) synced → (not old_log.is_ended ≡ true → some sync_failed (more ++ calls) ≡ false) → Did page_reads page_writes page_syncs old.port more new.port
+        → reverse (changes_of (cut.commits ++ commits)) ≡ left ++ writes_of new.core.past
+        → durable new.core.past < start + records → ((p : ℕ) → some (discards p) new.core.past ≡ false) → so commits records left → Goes old new old_log old_log calls log_calls commits records so
+    pool-goes new more left so same legal life unfailed did told mark kept p =
+        pool-went new old_log more left synced so same refl did (record {
+          ran = record {
+            log = is.ran.log;
+            are = is.ran.are;
+            legal = legal;
+            cut_is = is.ran.cut_is;
+            pool = life;
+            unfailed = unfailed;
+            written = told;
+            mark = mark;
+            named = is.ran.named;
+            kept = kept;
+            full = subst (λ (c : Parameters). FirstsAreFull c.size (reverse (changes_of commits))) (sym same) is.ran.full;
+          };
+          file_is = is.file_is;
+        }) p
+
+    pub pool-same : (new : OwnedView P) (so : List (List LogRecord) → ℕ → List LogRecord → Type 0) → new.core ≡ old.core → new.port ≡ old.port → so commits records pending → Goes old new old_log old_log calls log_calls commits records so
     pool-same new so core port p =
         let past = ap (λ (x : CoreView). x.past) core in
         pool-goes new [] pending so (ap (λ (x : CoreView). x.parameters) core)
@@ -275,7 +347,7 @@ module _ {S P : Type 0} (reads writes : Transfer S) (syncs : StoreSync S) (page_
 
     -- the mark was raised, to the last record, when all were durable
     pub pool-marks : (new : OwnedView P) (lsn : ℕ) → records ≡ 1 + length commits → lsn ≡ old_log.next - 1 → old_log.is_ended ≡ false → Adds old.core 0 (Mark lsn) Done new.core → new.port ≡ old.port
-        → Goes old new old_log old_log calls log_calls (λ after n left. (after ≡ commits) × (left ≡ pending) × (n ≡ 1 + length commits))
+        → Goes old new old_log old_log calls log_calls commits records (λ after n left. (after ≡ commits) × (left ≡ pending) × (n ≡ 1 + length commits))
     pool-marks new lsn all is-lsn alive adds port =
         let e : Entry = record { client = 0; call = Mark lsn; reply = Done } in
         let past : new.core.past ≡ e ∷ old.core.past = ap (λ (x : CoreView). x.past) adds.is in
@@ -289,49 +361,52 @@ module _ {S P : Type 0} (reads writes : Transfer S) (syncs : StoreSync S) (page_
         max-below : (a b k : ℕ) → a < k → b < k → max a b < k
         max-below a b k p q = omega arith
 
-  pub table-weaken : (old new : OwnedView P) (old_log new_log : LogFile S) (calls : List DeviceCall) (log_calls : List FileCall) (A B : List (List LogRecord) → ℕ → List LogRecord → Type 0)
-      → ((cs : List (List LogRecord)) (n : ℕ) (left : List LogRecord) → A cs n left → B cs n left) → Goes old new old_log new_log calls log_calls A → Goes old new old_log new_log calls log_calls B
+  pub table-weaken : (old new : OwnedView P) (old_log new_log : LogFile S) (calls : List DeviceCall) (log_calls : List FileCall) {commits : List (List LogRecord)} {records : ℕ} (A B : List (List LogRecord) → ℕ → List LogRecord → Type 0)
+      → ((cs : List (List LogRecord)) (n : ℕ) (left : List LogRecord) → A cs n left → B cs n left) → Goes old new old_log new_log calls log_calls commits records A → Goes old new old_log new_log calls log_calls commits records B
   table-weaken old new old_log new_log calls log_calls A B f g = record {
-    more = g.more;
-    more_log = g.more_log;
+    steps = g.steps;
     synced = g.synced;
     commits = g.commits;
     durable = g.durable;
     pending = g.pending;
     parameters = g.parameters;
+    no_spare = g.no_spare;
     did = g.did;
-    log_did = g.log_did;
+    each = g.each;
+    no_fewer = g.no_fewer;
     is = g.is;
     is_so = f g.commits g.durable g.pending g.is_so;
   }
 
 -- ---- what is said of the calls and commits of such a call
 
-module _ {S P : Type 0} (reads writes : Transfer S) (syncs : StoreSync S) (page_reads : Reads P) (page_writes : Writes P) (page_syncs : Syncs P) (table : List ℕ) (cut : Cut) (file : List ℕ) (start : ℕ) (calls : List DeviceCall) (log_calls : List FileCall) where
-  abbrev Goes_on : OwnedView P → OwnedView P → LogFile S → LogFile S → List DeviceCall → List FileCall → (List (List LogRecord) → ℕ → List LogRecord → Type 0) → Type 0
-  Goes_on old new old_log new_log cs fs so = TableGoes reads writes syncs page_reads page_writes page_syncs old new old_log new_log table cut file start cs fs so
+module _ {S P : Type 0} (reads writes : P → Transfer S) (syncs : P → StoreSync S) (page_reads : Reads P) (page_writes : Writes P) (page_syncs : Syncs P) (table : List ℕ) (cut : Cut) (file : List ℕ) (start : ℕ) (calls : List DeviceCall) (log_calls : List FileCall) where
+  abbrev Goes_on : OwnedView P → OwnedView P → LogFile S → LogFile S → List DeviceCall → List FileCall → List (List LogRecord) → ℕ → (List (List LogRecord) → ℕ → List LogRecord → Type 0) → Type 0
+  Goes_on old new old_log new_log cs fs before records so = TableGoes reads writes syncs page_reads page_writes page_syncs old new old_log new_log table cut file start cs fs before records so
 
-  pub then-so : (old mid new : OwnedView P) (old_log mid_log new_log : LogFile S) (A B : List (List LogRecord) → ℕ → List LogRecord → Type 0) (g : Goes_on old mid old_log mid_log calls log_calls A) (h : Goes_on mid new mid_log new_log (g.more ++ calls) (g.more_log ++ log_calls) B)
-      (R : List DeviceCall → List (List LogRecord) → Type 0) → R (h.more ++ g.more) h.commits → (k : Goes_on old new old_log new_log calls log_calls B) × R k.more k.commits
-  unfolding table-then
-  then-so old mid new old_log mid_log new_log A B g h R r = (table-then reads writes syncs page_reads page_writes page_syncs table cut file start old mid new old_log mid_log new_log calls log_calls A B g h, r)
+  pub then-so : (old mid new : OwnedView P) (old_log mid_log new_log : LogFile S) {before : List (List LogRecord)} {records : ℕ} (A B : List (List LogRecord) → ℕ → List LogRecord → Type 0) (g : Goes_on old mid old_log mid_log calls log_calls before records A)
+      (from : List (List LogRecord)) → from ≡ g.commits → (h : Goes_on mid new mid_log new_log (pages_in g.steps ++ calls) (log_in g.steps ++ log_calls) from g.durable B)
+      (R : List DeviceCall → List (List LogRecord) → Type 0) → R (pages_in h.steps ++ pages_in g.steps) h.commits → (k : Goes_on old new old_log new_log calls log_calls before records B) × R (pages_in k.steps) k.commits
+  unfolding table-next
+  then-so old mid new old_log mid_log new_log A B g from same h R r =
+      (table-next reads writes syncs page_reads page_writes page_syncs table cut file start old mid new old_log mid_log new_log calls log_calls A B g from g.durable same refl h, subst (λ (cs : List DeviceCall). R cs h.commits) (sym (pages-append h.steps g.steps)) r)
 
-  pub so-so : (old new : OwnedView P) (old_log new_log : LogFile S) (A B : List (List LogRecord) → ℕ → List LogRecord → Type 0) → ((cs : List (List LogRecord)) (n : ℕ) (left : List LogRecord) → A cs n left → B cs n left) → (g : Goes_on old new old_log new_log calls log_calls A)
-      (R : List DeviceCall → List (List LogRecord) → Type 0) → R g.more g.commits → (k : Goes_on old new old_log new_log calls log_calls B) × R k.more k.commits
+  pub so-so : (old new : OwnedView P) (old_log new_log : LogFile S) {before : List (List LogRecord)} {records : ℕ} (A B : List (List LogRecord) → ℕ → List LogRecord → Type 0) → ((cs : List (List LogRecord)) (n : ℕ) (left : List LogRecord) → A cs n left → B cs n left) → (g : Goes_on old new old_log new_log calls log_calls before records A)
+      (R : List DeviceCall → List (List LogRecord) → Type 0) → R (pages_in g.steps) g.commits → (k : Goes_on old new old_log new_log calls log_calls before records B) × R (pages_in k.steps) k.commits
   unfolding table-weaken
   so-so old new old_log new_log A B f g R r = (table-weaken reads writes syncs page_reads page_writes page_syncs table cut file start old new old_log new_log calls log_calls A B f g, r)
 
   pub stays-so : (synced : Trail) (commits : List (List LogRecord)) (records : ℕ) (pending : List LogRecord) (old : OwnedView P) (old_log : LogFile S) (is : IsTable table cut file start synced calls log_calls commits records pending old old_log)
-      (so : List (List LogRecord) → ℕ → List LogRecord → Type 0) → so commits records pending → (R : List DeviceCall → List (List LogRecord) → Type 0) → R [] commits → (k : Goes_on old old old_log old_log calls log_calls so) × R k.more k.commits
+      (so : List (List LogRecord) → ℕ → List LogRecord → Type 0) → so commits records pending → (R : List DeviceCall → List (List LogRecord) → Type 0) → R [] commits → (k : Goes_on old old old_log old_log calls log_calls commits records so) × R (pages_in k.steps) k.commits
   unfolding table-stays
   stays-so synced commits records pending old old_log is so p R r = (table-stays reads writes syncs page_reads page_writes page_syncs table cut file start synced calls log_calls commits records pending old old_log is so p, r)
 
   -- as it was said to be
-  pub so-is : (commits : List (List LogRecord)) (old new : OwnedView P) (old_log new_log : LogFile S) (g : Goes_on old new old_log new_log calls log_calls (λ after n left. (after ≡ commits) × (left ≡ [])))
-      → IsTable table cut file start g.synced (g.more ++ calls) (g.more_log ++ log_calls) commits g.durable [] new new_log
+  pub so-is : (commits : List (List LogRecord)) (old new : OwnedView P) (old_log new_log : LogFile S) {before : List (List LogRecord)} {records : ℕ} (g : Goes_on old new old_log new_log calls log_calls before records (λ after n left. (after ≡ commits) × (left ≡ [])))
+      → IsTable table cut file start g.synced (pages_in g.steps ++ calls) (log_in g.steps ++ log_calls) commits g.durable [] new new_log
   so-is commits old new old_log new_log g =
-      subst (λ (l : List LogRecord). IsTable table cut file start g.synced (g.more ++ calls) (g.more_log ++ log_calls) commits g.durable l new new_log) g.is_so.1
-      (subst (λ (cs : List (List LogRecord)). IsTable table cut file start g.synced (g.more ++ calls) (g.more_log ++ log_calls) cs g.durable g.pending new new_log) g.is_so.0 g.is)
+      subst (λ (l : List LogRecord). IsTable table cut file start g.synced (pages_in g.steps ++ calls) (log_in g.steps ++ log_calls) commits g.durable l new new_log) g.is_so.1
+      (subst (λ (cs : List (List LogRecord)). IsTable table cut file start g.synced (pages_in g.steps ++ calls) (log_in g.steps ++ log_calls) cs g.durable g.pending new new_log) g.is_so.0 g.is)
 
 -- ---- refusals
 
@@ -340,7 +415,7 @@ step-refused A old new client call refusal.TrailFull h = h.1
 step-refused A old new client call _ h = absurd h
 
 -- a mark that was refused found no room
-pub mark-refused : {S P : Type 0} (syncs : StoreSync S) (old new : OwnedView P) (old_log new_log : LogFile S) (lsn : ℕ) (why : Refusal) → StepOutcome {A = Unit {0}} old.core 0 (Mark lsn) (Err why) new.core → DurableFault syncs old old_log new_log (Pages why)
+pub mark-refused : {S P : Type 0} (syncs : P → StoreSync S) (old new : OwnedView P) (old_log new_log : LogFile S) (lsn : ℕ) (why : Refusal) → StepOutcome {A = Unit {0}} old.core 0 (Mark lsn) (Err why) new.core → DurableFault syncs old old_log new_log (Pages why)
 mark-refused syncs old new old_log new_log lsn refusal.TrailFull h = no_room_left h.0
 mark-refused syncs old new old_log new_log lsn _ h = absurd h
 
@@ -348,7 +423,7 @@ abbrev AreSame : Result (Unit {0}) LogFault → Result (Unit {0}) LogFault → T
 AreSame r s = r ≡ s
 
 -- a sync that was refused failed
-pub sync-refused : {S P : Type 0} (syncs : StoreSync S) (pool : OwnedView P) (old new : LogFile S) (fault : LogFault) → AreSame (Err fault) (Err FileFailed) → syncs old.store false new.store → new.is_ended ≡ true → DurableFault syncs pool old new (Log fault)
+pub sync-refused : {S P : Type 0} (syncs : P → StoreSync S) (pool : OwnedView P) (old new : LogFile S) (fault : LogFault) → AreSame (Err fault) (Err FileFailed) → syncs pool.port old.store false new.store → new.is_ended ≡ true → DurableFault syncs pool old new (Log fault)
 sync-refused syncs pool old new fault e gave ended = (let same : fault ≡ FileFailed = cc in subst (λ (f : LogFault). DurableFault syncs pool old new (Log f)) (sym same) (sync_failed_there gave ended))
 
 pub tick-refused : (A : Type 0) (old new : CoreView) (why : Refusal) → TickOutcome {A = A} old 0 1 (Err why) new → new ≡ old
@@ -403,12 +478,12 @@ page-quiet {P = P} old new page result h = elim (cases_lt page old.core.paramete
   | inr le ↦ added-none old.core new.core (ap (λ (x : OwnedView P). x.core) (h.1 le).1)
 ]
 
-module _ {S P : Type 0} (reads writes : Transfer S) (syncs : StoreSync S) (page_reads : Reads P) (page_writes : Writes P) (page_syncs : Syncs P) (table : List ℕ) (cut : Cut) (file : List ℕ) (start : ℕ)
+module _ {S P : Type 0} (reads writes : P → Transfer S) (syncs : P → StoreSync S) (page_reads : Reads P) (page_writes : Writes P) (page_syncs : Syncs P) (table : List ℕ) (cut : Cut) (file : List ℕ) (start : ℕ)
     (synced : Trail) (calls : List DeviceCall) (log_calls : List FileCall) (commits : List (List LogRecord)) (records : ℕ) (pending : List LogRecord) (old : OwnedView P) (old_log : LogFile S)
     (is : IsTable table cut file start synced calls log_calls commits records pending old old_log) where
   -- a page was fixed, or not
   pub pool-fixes : (new : OwnedView P) (so : List (List LogRecord) → ℕ → List LogRecord → Type 0) → AddsQuiet old.core new.core → DoesWork page_reads page_writes old.core old.port new.core new.port → Legal new.core.parameters new.core.past → so commits records pending
-      → TableGoes reads writes syncs page_reads page_writes page_syncs old new old_log old_log table cut file start calls log_calls so
+      → TableGoes reads writes syncs page_reads page_writes page_syncs old new old_log old_log table cut file start calls log_calls commits records so
   pool-fixes new so adds work legal p =
       let worked = works page_reads page_writes page_syncs cut.past cut.calls old.core.past synced work.piece calls old.port new.port is.ran.pool work.through in
       let past : new.core.past ≡ work.piece ++ old.core.past = ap (λ (x : CoreView). x.past) work.is in
@@ -451,13 +526,13 @@ part-refused {P = P} old new pass offset bytes lsn why h = elim (cases_lt old.co
   | inr le ↦ write-refused (Unit {0}) old.core new.core pass offset bytes lsn why (h.0 le)
 ]
 
-module _ {S P : Type 0} (reads writes : Transfer S) (syncs : StoreSync S) (page_reads : Reads P) (page_writes : Writes P) (page_syncs : Syncs P) (table : List ℕ) (cut : Cut) (file : List ℕ) (start : ℕ)
+module _ {S P : Type 0} (reads writes : P → Transfer S) (syncs : P → StoreSync S) (page_reads : Reads P) (page_writes : Writes P) (page_syncs : Syncs P) (table : List ℕ) (cut : Cut) (file : List ℕ) (start : ℕ)
     (synced : Trail) (calls : List DeviceCall) (log_calls : List FileCall) (commits : List (List LogRecord)) (records : ℕ) (pending : List LogRecord) (old : OwnedView P) (old_log : LogFile S)
     (is : IsTable table cut file start synced calls log_calls commits records pending old old_log) where
   -- a change was written that was pending
   pub pool-writes : (new : OwnedView P) (so : List (List LogRecord) → ℕ → List LogRecord → Type 0) (pass : Pass) (r : LogRecord) (older : List LogRecord) → pending ≡ older ++ r ∷ [] → pass.page ≡ r.page
       → Adds old.core pass.client (Write pass.serial pass.page r.offset r.bytes r.lsn) Done new.core → new.port ≡ old.port → so commits records older
-      → TableGoes reads writes syncs page_reads page_writes page_syncs old new old_log old_log table cut file start calls log_calls so
+      → TableGoes reads writes syncs page_reads page_writes page_syncs old new old_log old_log table cut file start calls log_calls commits records so
   pool-writes new so pass r older told page adds port p =
       let e : Entry = record { client = pass.client; call = Write pass.serial pass.page r.offset r.bytes r.lsn; reply = Done } in
       let past : new.core.past ≡ e ∷ old.core.past = ap (λ (x : CoreView). x.past) adds.is in
@@ -472,7 +547,7 @@ module _ {S P : Type 0} (reads writes : Transfer S) (syncs : StoreSync S) (page_
 
   -- a pass went back, or was not known
   pub pool-unfixes : (new : OwnedView P) (so : List (List LogRecord) → ℕ → List LogRecord → Type 0) (pass : Pass) (result : Result (Unit {0}) Pass) → UnfixOutcome old.core pass result new.core → new.port ≡ old.port → so commits records pending
-      → TableGoes reads writes syncs page_reads page_writes page_syncs old new old_log old_log table cut file start calls log_calls so
+      → TableGoes reads writes syncs page_reads page_writes page_syncs old new old_log old_log table cut file start calls log_calls commits records so
   pool-unfixes new so pass (Err same) h port p = pool-same reads writes syncs page_reads page_writes page_syncs table cut file start synced calls log_calls commits records pending old old_log is new so h.2 port p
   pool-unfixes new so pass (Ok done) h port p =
       let e : Entry = record { client = pass.client; call = Unfix pass.serial pass.page; reply = Done } in
@@ -484,26 +559,17 @@ module _ {S P : Type 0} (reads writes : Transfer S) (syncs : StoreSync S) (page_
       (λ q. subst (λ (t : Trail). some (discards q) t ≡ false) (sym past) (ap (λ (b : Bool). b || some (discards q) old.core.past) (keeps e q refl) ∙ is.ran.kept q)) p
 
   -- the record of a commit was appended, or not
-  pub log-appends : (new_log : LogFile S) (commit : List LogRecord) (so : List (List LogRecord) → ℕ → List LogRecord → Type 0) → (not new_log.is_ended ≡ true → not old_log.is_ended ≡ true) → pending ≡ [] → AreChanges (start + 1 + length commits) commit → FirstsAreFull old.core.parameters.size (reverse commit ++ reverse (changes_of commits))
-      → GoesOn reads writes syncs old_log new_log file start log_calls (λ after n. (n ≡ records) × (after ≡ log_of table commits ++ payload_of commit ∷ []))
-      → so (commits ++ commit ∷ []) records (reverse commit)
-      → TableGoes reads writes syncs page_reads page_writes page_syncs old old old_log new_log table cut file start calls log_calls so
-  log-appends new_log commit so still none are firsts g p =
-      let pushed : log_of table (commits ++ commit ∷ []) ≡ log_of table commits ++ payload_of commit ∷ [] = ap (λ (t : List (List ℕ)). table ∷ t) (map_push payload_of commits commit) in
-      let log-is : g.log ≡ log_of table (commits ++ commit ∷ []) = g.is_so.1 ∙ sym pushed in
-      let there : IsLogFile file start (g.more ++ log_calls) (log_of table (commits ++ commit ∷ [])) records new_log =
-      subst (λ (n : ℕ). IsLogFile file start (g.more ++ log_calls) (log_of table (commits ++ commit ∷ [])) n new_log) g.is_so.0 (subst (λ (xs : List (List ℕ)). IsLogFile file start (g.more ++ log_calls) xs g.durable new_log) log-is g.is) in
-      record {
-        more = [];
-        more_log = g.more;
-        synced = synced;
-        commits = commits ++ commit ∷ [];
-        durable = records;
-        pending = reverse commit;
-        parameters = refl;
-        did = refl;
-        log_did = g.did;
-        is = record {
+  module _ (at : P) (there_at : at ≡ old.port) where
+    pub log-appends : (new_log : LogFile S) (commit : List LogRecord) (so : List (List LogRecord) → ℕ → List LogRecord → Type 0) → (not new_log.is_ended ≡ true → not old_log.is_ended ≡ true) → pending ≡ [] → AreChanges (start + 1 + length commits) commit → FirstsAreFull old.core.parameters.size (reverse commit ++ reverse (changes_of commits))
+        → GoesOn (reads at) (writes at) (syncs at) old_log new_log file start log_calls (λ after n. (n ≡ records) × (after ≡ log_of table commits ++ payload_of commit ∷ []))
+        → so (commits ++ commit ∷ []) records (reverse commit)
+        → TableGoes reads writes syncs page_reads page_writes page_syncs old old old_log new_log table cut file start calls log_calls commits records so
+    log-appends new_log commit so still none are firsts g p =
+        let pushed : log_of table (commits ++ commit ∷ []) ≡ log_of table commits ++ payload_of commit ∷ [] = ap (λ (t : List (List ℕ)). table ∷ t) (map_push payload_of commits commit) in
+        let log-is : g.log ≡ log_of table (commits ++ commit ∷ []) = g.is_so.1 ∙ sym pushed in
+        let there : IsLogFile file start (g.more ++ log_calls) (log_of table (commits ++ commit ∷ [])) records new_log =
+        subst (λ (n : ℕ). IsLogFile file start (g.more ++ log_calls) (log_of table (commits ++ commit ∷ [])) n new_log) g.is_so.0 (subst (λ (xs : List (List ℕ)). IsLogFile file start (g.more ++ log_calls) xs g.durable new_log) log-is g.is) in
+        log-goes reads writes syncs page_reads page_writes page_syncs table cut file start synced calls log_calls commits records pending old old_log is at there_at new_log (commits ++ commit ∷ []) (commit ∷ []) records (reverse commit) (λ after n. (n ≡ records) × (after ≡ log_of table commits ++ payload_of commit ∷ [])) so refl (omega arith) g (record {
           ran = record {
             log = there.life;
             are = commits-push (start + 1) commits commit is.ran.are are;
@@ -520,45 +586,24 @@ module _ {S P : Type 0} (reads writes : Transfer S) (syncs : StoreSync S) (page_
             full = subst (FirstsAreFull old.core.parameters.size) (sym (ap reverse (changes_of-push commits commit) ∙ reverse-append (changes_of commits) commit)) firsts;
           };
           file_is = there;
-        };
-        is_so = p;
-      }
+        }) p
 
-  -- the log refused a record: it has it, or has not
-  pub log-refuses : (new_log : LogFile S) (commit : List LogRecord) (A : List (List ℕ) → ℕ → Type 0) (so : List (List LogRecord) → ℕ → List LogRecord → Type 0) → (not new_log.is_ended ≡ true → not old_log.is_ended ≡ true) → pending ≡ [] → AreChanges (start + 1 + length commits) commit → FirstsAreFull old.core.parameters.size (reverse commit ++ reverse (changes_of commits))
-      → GoesOn reads writes syncs old_log new_log file start log_calls (λ after n. (n ≡ records) × A after n × ((after ≡ log_of table commits) ⊎ (after ≡ log_of table commits ++ payload_of commit ∷ [])))
-      → so commits records [] → so (commits ++ commit ∷ []) records (reverse commit)
-      → TableGoes reads writes syncs page_reads page_writes page_syncs old old old_log new_log table cut file start calls log_calls so
-  log-refuses new_log commit A so still none are firsts g p q = go g.is_so.2
-    where
-      go : (g.log ≡ log_of table commits) ⊎ (g.log ≡ log_of table commits ++ payload_of commit ∷ []) → TableGoes reads writes syncs page_reads page_writes page_syncs old old old_log new_log table cut file start calls log_calls so
-      go (inr e) = log-appends new_log commit so still none are firsts (record { more = g.more; log = g.log; durable = g.durable; did = g.did; is = g.is; is_so = (g.is_so.0, e) }) q
-      go (inl e) =
-          table-weaken reads writes syncs page_reads page_writes page_syncs table cut file start old old old_log new_log calls log_calls (λ after n left. (after ≡ commits) × (left ≡ pending) × (n ≡ records)) so
-          (λ cs n left h. subst (λ (c : List (List LogRecord)). so c n left) (sym h.0) (subst (λ (k : ℕ). so commits k left) (sym h.2) (subst (λ (l : List LogRecord). so commits records l) (sym (h.1 ∙ none)) p)))
-          (log-same new_log still (record { more = g.more; log = g.log; durable = g.durable; did = g.did; is = g.is; is_so = (e, g.is_so.0) }))
-        where
-          log-same : (new_log : LogFile S) → (not new_log.is_ended ≡ true → not old_log.is_ended ≡ true) → GoesOn reads writes syncs old_log new_log file start log_calls (λ after n. (after ≡ log_of table commits) × (n ≡ records))
-              → TableGoes reads writes syncs page_reads page_writes page_syncs old old old_log new_log table cut file start calls log_calls (λ after n left. (after ≡ commits) × (left ≡ pending) × (n ≡ records))
-          log-same new_log still g =
-              let there : IsLogFile file start (g.more ++ log_calls) (log_of table commits) records new_log =
-              subst (λ (n : ℕ). IsLogFile file start (g.more ++ log_calls) (log_of table commits) n new_log) g.is_so.1 (subst (λ (xs : List (List ℕ)). IsLogFile file start (g.more ++ log_calls) xs g.durable new_log) g.is_so.0 g.is) in
-              record {
-                more = [];
-                more_log = g.more;
-                synced = synced;
-                commits = commits;
-                durable = records;
-                pending = pending;
-                parameters = refl;
-                did = refl;
-                log_did = g.did;
-                is = record {
-                  ran = record { log = there.life; are = is.ran.are; legal = is.ran.legal; cut_is = is.ran.cut_is; pool = is.ran.pool; unfailed = λ yes. is.ran.unfailed (still yes); written = is.ran.written; mark = is.ran.mark; named = is.ran.named; kept = is.ran.kept; full = is.ran.full };
-                  file_is = there;
-                };
-                is_so = (refl, refl, refl);
-              }
+    -- the log refused a record: it has it, or has not
+    pub log-refuses : (new_log : LogFile S) (commit : List LogRecord) (A : List (List ℕ) → ℕ → Type 0) (so : List (List LogRecord) → ℕ → List LogRecord → Type 0) → (not new_log.is_ended ≡ true → not old_log.is_ended ≡ true) → pending ≡ [] → AreChanges (start + 1 + length commits) commit → FirstsAreFull old.core.parameters.size (reverse commit ++ reverse (changes_of commits))
+        → GoesOn (reads at) (writes at) (syncs at) old_log new_log file start log_calls (λ after n. (n ≡ records) × A after n × ((after ≡ log_of table commits) ⊎ (after ≡ log_of table commits ++ payload_of commit ∷ [])))
+        → so commits records [] → so (commits ++ commit ∷ []) records (reverse commit)
+        → TableGoes reads writes syncs page_reads page_writes page_syncs old old old_log new_log table cut file start calls log_calls commits records so
+    log-refuses new_log commit A so still none are firsts g p q = go g.is_so.2
+      where
+        go : (g.log ≡ log_of table commits) ⊎ (g.log ≡ log_of table commits ++ payload_of commit ∷ []) → TableGoes reads writes syncs page_reads page_writes page_syncs old old old_log new_log table cut file start calls log_calls commits records so
+        go (inr e) = log-appends new_log commit so still none are firsts (record { more = g.more; log = g.log; durable = g.durable; one = g.one; did = g.did; is = g.is; is_so = (g.is_so.0, e) }) q
+        go (inl e) =
+            let there : IsLogFile file start (g.more ++ log_calls) (log_of table commits) records new_log =
+            subst (λ (n : ℕ). IsLogFile file start (g.more ++ log_calls) (log_of table commits) n new_log) g.is_so.0 (subst (λ (xs : List (List ℕ)). IsLogFile file start (g.more ++ log_calls) xs g.durable new_log) e g.is) in
+            log-goes reads writes syncs page_reads page_writes page_syncs table cut file start synced calls log_calls commits records pending old old_log is at there_at new_log commits [] records [] (λ after n. (n ≡ records) × A after n × ((after ≡ log_of table commits) ⊎ (after ≡ log_of table commits ++ payload_of commit ∷ []))) so (sym (append-nil commits)) (omega arith) g (record {
+              ran = record { log = there.life; are = is.ran.are; legal = is.ran.legal; cut_is = is.ran.cut_is; pool = is.ran.pool; unfailed = λ yes. is.ran.unfailed (still yes); written = is.ran.written ∙ ap (λ (t : List LogRecord). t ++ writes_of old.core.past) none; mark = is.ran.mark; named = is.ran.named; kept = is.ran.kept; full = is.ran.full };
+              file_is = there;
+            }) p
 
 -- ---- the changes of a commit, one after the other
 

@@ -11,9 +11,9 @@ use Rattle.example_table.specs.declared.table.TableFault.TheVariants.{Log, Pages
 
 -- why no commit was made durable: the log had ended; its file was not synced; or the pool has no room
 -- for an entry more
-pub data DurableFault {S P : Type 0} (syncs : StoreSync S) (pool : OwnedView P) (old new : LogFile S)
+pub data DurableFault {S P : Type 0} (syncs : P → StoreSync S) (pool : OwnedView P) (old new : LogFile S)
     : TableFault → Type 0 where
   had_ended : old.is_ended ≡ true → new ≡ old → DurableFault syncs pool old new (Log Ended)
-  failed : syncs old.store false new.store → new.is_ended ≡ true
+  failed : syncs pool.port old.store false new.store → new.is_ended ≡ true
       → DurableFault syncs pool old new (Log Device)
   no_room : LacksRoomFor 1 pool.core → DurableFault syncs pool old new (Pages TrailFull)

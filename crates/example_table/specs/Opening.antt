@@ -16,7 +16,8 @@ use Rattle.example_log.specs.Disk.{DeviceCall, Reads, Writes, Syncs, Did}
 use Rattle.example_log.specs.Files.{FileCall, FileDid, FileLeaves, failed, synced, written}
 use Rattle.example_log.specs.Frames.{IsRecord, NoFrame, frame}
 use Rattle.example_log.specs.Lives.{LogLife, Reopened, whole}
-use Rattle.example_log.specs.LogFiles.{BeginFault, IsLogFile, IsUnread, Settles, Wipes, WipesFile}
+use Rattle.example_log.specs.Moments.{AtEach, Made, Step, log_in, pages_in, spare_in}
+use Rattle.example_log.specs.LogFiles.{BeginFault, BeginsBy, IsLogFile, IsUnread, Settles, Wipes, WipesFile}
 use Rattle.example_log.specs.Promise.{MayBeRedone, Recovers}
 
 -- ---- which of two files has the log
@@ -95,7 +96,7 @@ BeginsLog reads writes syncs old new start table good =
     (file : List ℕ) (before : List FileCall) → failed before ≡ false
     → length (written file before) ≡ length file → old.size ≡ length file
     → (more : List FileCall) × FileDid reads writes syncs old.store more new.store
-    × Beginning file start table before (more ++ before)
+    × AtEach (λ so_far. Beginning file start table before (so_far ++ before)) more
     × (good ≡ true → IsLogFile file start (more ++ before) (table ∷ []) 1 new)
 
 -- why an opening is refused before it wrote anything
@@ -112,34 +113,69 @@ pub data MoveFault (device : Geometry) (head newer older : List ℕ) : TableFaul
   no_lsn : {first last : ℕ} {changes : List LogRecord} → HasCommits head newer first last changes
       → 2 ^ 64 - 2 ≤ last → MoveFault device head newer older (Log Full)
 
+-- A moment of an opening that found a log with these changes: the file of that log is being written
+-- again; or that is durable, and pages are redone; or all are, durably, and a log is begun in the other
+-- file, of so many bytes, or not yet.
+pub data IsOpening (device : Geometry) (again table : List ℕ) (changes : List LogRecord)
+    (next size : ℕ) (so_far : List Step) : Type 0 where
+  settling : {all : List FileCall} {good : Bool} (later : List FileCall) → pages_in so_far ≡ [] → spare_in so_far ≡ []
+      → Settles again all good → all ≡ later ++ log_in so_far
+      → IsOpening device again table changes next size so_far
+  redoing : {all : List DeviceCall} {done : Bool} (later : List DeviceCall) → spare_in so_far ≡ []
+      → Settles again (log_in so_far) true
+      → Recovers device.pages device.size 0 (reverse changes) all done → all ≡ later ++ pages_in so_far
+      → IsOpening device again table changes next size so_far
+  beginning : Settles again (log_in so_far) true
+      → Recovers device.pages device.size 0 (reverse changes) (pages_in so_far) true
+      → BeginsBy size next table (spare_in so_far)
+      → IsOpening device again table changes next size so_far
+
+-- its calls of the device and of both files stand in one list, in the order in which they were made
+pub record IsInOrder {S P : Type 0} (reads writes : P → Transfer S) (syncs : P → StoreSync S)
+    (page_reads : Reads P) (page_writes : Writes P) (page_syncs : Syncs P) (device : Geometry)
+    (again table : List ℕ) (changes : List LogRecord) (next : ℕ) (old new : P)
+    (old_newer new_newer old_older new_older : LogFile S) : Type 0 where
+  pub steps : List Step
+  pub did : Made page_reads page_writes page_syncs reads writes syncs
+      (record { port = old; log = old_newer.store; spare = old_older.store }) steps
+      (record { port = new; log = new_newer.store; spare = new_older.store })
+  pub each : AtEach (IsOpening device again table changes next old_older.size) steps
+
 -- What an opening does: it is refused, with nothing done; or it writes the newer log again, and that
 -- is not yet durable; or it stops within the redo; or all is redone, and a log is begun in the other
 -- file, in part or durably.
-pub data MovesLog {S P : Type 0} (reads writes : Transfer S) (syncs : StoreSync S)
+pub data MovesLog {S P : Type 0} (reads writes : P → Transfer S) (syncs : P → StoreSync S)
     (page_reads : Reads P) (page_writes : Writes P) (page_syncs : Syncs P) (device : Geometry)
     (table newer older : List ℕ) (old : P) (old_newer old_older : LogFile S)
     : Result (Unit {0}) TableFault → P → LogFile S → LogFile S → Type 0 where
   refused : (why : TableFault) → MoveFault device table newer older why
       → MovesLog reads writes syncs page_reads page_writes page_syncs device table newer older
       old old_newer old_older (Err why) old old_newer old_older
-  unsettled : {new_newer : LogFile S} (f : Found device table newer older) (calls : List FileCall)
-      (why : TableFault) → FileDid reads writes syncs old_newer.store calls new_newer.store
-      → Settles (again_of f.is_newer) calls false
+  unsettled : {new_newer : LogFile S} (f : Found device table newer older) (why : TableFault)
+      (o : IsInOrder reads writes syncs page_reads page_writes page_syncs device (again_of f.is_newer)
+      table f.changes (f.last + 1) old old old_newer new_newer old_older old_older)
+      → (pages_in o.steps ≡ []) × (spare_in o.steps ≡ [])
+      → Settles (again_of f.is_newer) (log_in o.steps) false
       → MovesLog reads writes syncs page_reads page_writes page_syncs device table newer older
       old old_newer old_older (Err why) old new_newer old_older
-  stopped : {new : P} {new_newer : LogFile S} (f : Found device table newer older)
-      (calls : List FileCall) (done : Bool) (why : TableFault)
-      → FileDid reads writes syncs old_newer.store calls new_newer.store
-      → Settles (again_of f.is_newer) calls true
-      → Redid page_reads page_writes page_syncs device f.changes old done new
+  stopped : {new : P} {new_newer : LogFile S} (f : Found device table newer older) (done : Bool)
+      (why : TableFault)
+      (o : IsInOrder reads writes syncs page_reads page_writes page_syncs device (again_of f.is_newer)
+      table f.changes (f.last + 1) old new old_newer new_newer old_older old_older)
+      → spare_in o.steps ≡ [] → Settles (again_of f.is_newer) (log_in o.steps) true
+      → Recovers device.pages device.size 0 (reverse f.changes) (pages_in o.steps) done
       → MovesLog reads writes syncs page_reads page_writes page_syncs device table newer older
       old old_newer old_older (Err why) new new_newer old_older
   moved : {new : P} {new_newer new_older : LogFile S} (f : Found device table newer older)
-      (calls : List FileCall) (result : Result (Unit {0}) TableFault)
-      → FileDid reads writes syncs old_newer.store calls new_newer.store
-      → Settles (again_of f.is_newer) calls true
-      → Redid page_reads page_writes page_syncs device f.changes old true new
-      → BeginsLog reads writes syncs old_older new_older (f.last + 1) table (is_ok result)
+      (result : Result (Unit {0}) TableFault)
+      (o : IsInOrder reads writes syncs page_reads page_writes page_syncs device (again_of f.is_newer)
+      table f.changes (f.last + 1) old new old_newer new_newer old_older new_older)
+      → Settles (again_of f.is_newer) (log_in o.steps) true
+      → Recovers device.pages device.size 0 (reverse f.changes) (pages_in o.steps) true
+      → BeginsBy old_older.size (f.last + 1) table (spare_in o.steps)
+      → (is_ok result ≡ true → (file : List ℕ) (before : List FileCall) → failed before ≡ false
+      → length (written file before) ≡ length file → old_older.size ≡ length file
+      → IsLogFile file (f.last + 1) (spare_in o.steps ++ before) (table ∷ []) 1 new_older)
       → MovesLog reads writes syncs page_reads page_writes page_syncs device table newer older
       old old_newer old_older result new new_newer new_older
 
@@ -210,7 +246,7 @@ pub data CreatesLog {S : Type 0} (reads writes : Transfer S) (syncs : StoreSync 
       → CreatesLog reads writes syncs head one two result new_one new_two
 
 -- both files were read, and the log goes on in that of the older one, which is the second or not
-pub record Moves {S P : Type 0} (reads writes : Transfer S) (syncs : StoreSync S)
+pub record Moves {S P : Type 0} (reads writes : P → Transfer S) (syncs : P → StoreSync S)
     (page_reads : Reads P) (page_writes : Writes P) (page_syncs : Syncs P) (device : Geometry)
     (table : List ℕ) (is_second : Bool) (old : P) (newer older : LogFile S) (result : Result Bool TableFault)
     (new : P) (new_newer new_older : LogFile S) : Type 0 where
@@ -219,8 +255,8 @@ pub record Moves {S P : Type 0} (reads writes : Transfer S) (syncs : StoreSync S
   pub mid_newer : LogFile S
   pub mid_older : LogFile S
   pub outcome : Result (Unit {0}) TableFault
-  pub read_newer : reads newer.store 0 bytes true mid_newer.store
-  pub read_older : reads older.store 0 other true mid_older.store
+  pub read_newer : reads old newer.store 0 bytes true mid_newer.store
+  pub read_older : reads old older.store 0 other true mid_older.store
   pub size : (mid_older.size ≡ length other) × (mid_newer.size ≡ length bytes)
   pub moves : MovesLog reads writes syncs page_reads page_writes page_syncs device table bytes other
       old mid_newer mid_older outcome new new_newer new_older
@@ -245,13 +281,13 @@ pub data UnreadFault {S : Type 0} (reads : Transfer S) (head : List ℕ) (one tw
       → OtherHead head bytes why → UnreadFault reads head one two (Log why)
 
 -- an opening that wrote nothing; or the log goes on in the second file, or in the first
-abbrev pub OpensLog : {S P : Type 0} → Transfer S → Transfer S → StoreSync S → Reads P → Writes P
-    → Syncs P → Geometry → List ℕ → P → LogFile S → LogFile S → Result Bool TableFault → P → LogFile S
+abbrev pub OpensLog : {S P : Type 0} → (P → Transfer S) → (P → Transfer S) → (P → StoreSync S)
+    → Reads P → Writes P → Syncs P → Geometry → List ℕ → P → LogFile S → LogFile S → Result Bool TableFault → P → LogFile S
     → LogFile S → Type 0
 OpensLog reads writes syncs page_reads page_writes page_syncs device table old one two result new
     new_one new_two =
-    (IsErr result × IfErr result (UnreadFault reads table one two) × (new ≡ old)
-    × IsOnlyRead reads writes syncs one new_one × IsOnlyRead reads writes syncs two new_two)
+    (IsErr result × IfErr result (UnreadFault (reads old) table one two) × (new ≡ old)
+    × IsOnlyRead (reads old) (writes old) (syncs old) one new_one × IsOnlyRead (reads old) (writes old) (syncs old) two new_two)
     ⊎ Moves reads writes syncs page_reads page_writes page_syncs device table true old one two
     result new new_one new_two
     ⊎ Moves reads writes syncs page_reads page_writes page_syncs device table false old two one

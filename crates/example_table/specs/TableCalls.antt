@@ -1,5 +1,5 @@
 -- What the calls of a table do to it.
-use Rattle.std.specs.Prelude.{◌≡◌, ◌⊎◌, ℕ, Bool, false, not, List, [], ◌∷◌, ◌++◌, map, reverse, Result, OnErr, IfOk}
+use Rattle.std.specs.Prelude.{◌≡◌, ◌⊎◌, ℕ, ◌≤◌, Bool, false, not, List, [], ◌∷◌, ◌++◌, map, reverse, Result, OnErr, IfOk}
 use Rattle.bp_device.specs.Owned.{OwnedView}
 use Rattle.bp_ports.specs.Files.{Transfer, StoreSync}
 use Rattle.bp_trail.specs.declared.records.LogRecord.{LogRecord}
@@ -8,10 +8,11 @@ use Rattle.bp_trail.specs.Trail.{Trail}
 use Rattle.example_log.specs.declared.log.LogFile.{LogFile}
 use Rattle.example_table.specs.declared.table.TableFault.{TableFault}
 use Rattle.example_log.specs.Commits.{log_of}
-use Rattle.example_log.specs.Disk.{DeviceCall, Reads, Writes, Syncs, Did, Honest}
-use Rattle.example_log.specs.Files.{FileCall, FileDid}
+use Rattle.example_log.specs.Disk.{DeviceCall, Reads, Writes, Syncs, Honest}
+use Rattle.example_log.specs.Files.{FileCall}
+use Rattle.example_log.specs.Moments.{AtEach, Made, Step, log_in, pages_in, spare_in}
 use Rattle.example_log.specs.LogFiles.{IsLogFile}
-use Rattle.example_table.specs.Tables.{Cut, TableRan, contents}
+use Rattle.example_table.specs.Tables.{Cut, Stands, TableRan, contents}
 
 -- a change under an LSN
 abbrev pub under : ℕ → LogRecord → LogRecord
@@ -26,28 +27,34 @@ pub record IsTable {S P : Type 0} (table : List ℕ) (cut : Cut) (file : List �
       calls log_calls commits durable pending
   pub file_is : IsLogFile file start log_calls (log_of table commits) durable log
 
--- a call that goes on with them, and leaves commits, a number of durable records and pending changes
--- that are so
-pub record TableGoes {S P : Type 0} (reads writes : Transfer S) (syncs : StoreSync S)
+-- A call that goes on with them, and leaves commits, a number of durable records and pending changes
+-- that are so. Its calls of the device and of the log stand in one list, in the order in which they were
+-- made, and the table stands at each moment of it
+pub record TableGoes {S P : Type 0} (reads writes : P → Transfer S) (syncs : P → StoreSync S)
     (page_reads : Reads P) (page_writes : Writes P) (page_syncs : Syncs P) (old new : OwnedView P)
     (old_log new_log : LogFile S) (table : List ℕ) (cut : Cut) (file : List ℕ) (start : ℕ)
-    (calls : List DeviceCall) (log_calls : List FileCall)
-    (so : List (List LogRecord) → ℕ → List LogRecord → Type 0) : Type 0 where
-  pub more : List DeviceCall
-  pub more_log : List FileCall
+    (calls : List DeviceCall) (log_calls : List FileCall) (before : List (List LogRecord))
+    (records : ℕ) (so : List (List LogRecord) → ℕ → List LogRecord → Type 0) : Type 0 where
+  pub steps : List Step
   pub synced : Trail
   pub commits : List (List LogRecord)
   pub durable : ℕ
   pub pending : List LogRecord
   pub parameters : new.core.parameters ≡ old.core.parameters
-  pub did : Did page_reads page_writes page_syncs old.port more new.port
-  pub log_did : FileDid reads writes syncs old_log.store more_log new_log.store
-  pub is : IsTable table cut file start synced (more ++ calls) (more_log ++ log_calls) commits durable
-      pending new new_log
+  pub no_spare : spare_in steps ≡ []
+  pub did : (spare : S) → Made page_reads page_writes page_syncs reads writes syncs
+      (record { port = old.port; log = old_log.store; spare = spare }) steps
+      (record { port = new.port; log = new_log.store; spare = spare })
+  pub each : AtEach (λ so_far. Stands old.core.parameters table cut file start
+      (pages_in so_far ++ calls) (log_in so_far ++ log_calls) before commits records) steps
+  pub no_fewer : records ≤ durable
+  pub is : IsTable table cut file start synced (pages_in steps ++ calls) (log_in steps ++ log_calls)
+      commits durable pending new new_log
   pub is_so : so commits durable pending
 
 -- a call that goes on with whatever a table has, and leaves what is so of what it had
-abbrev pub TableDoes : {S P : Type 0} → Transfer S → Transfer S → StoreSync S → Reads P → Writes P
+abbrev pub TableDoes : {S P : Type 0} → (P → Transfer S) → (P → Transfer S) → (P → StoreSync S)
+    → Reads P → Writes P
     → Syncs P → OwnedView P → OwnedView P → LogFile S → LogFile S
     → (List (List LogRecord) → ℕ → List LogRecord → List (List LogRecord) → ℕ → List LogRecord
     → Type 0) → Type 0
@@ -57,7 +64,7 @@ TableDoes reads writes syncs page_reads page_writes page_syncs old new old_log n
     (pending : List LogRecord)
     → IsTable table cut file start synced calls log_calls commits records pending old old_log
     → TableGoes reads writes syncs page_reads page_writes page_syncs old new old_log new_log table cut
-    file start calls log_calls (so commits records pending)
+    file start calls log_calls commits records (so commits records pending)
 
 -- A commit was added, whose record has these changes, the first of each page with all other bytes of it.
 -- What all commits then make of the first images, these changes make of what the commits before made: if

@@ -67,3 +67,22 @@ pub record TableRan (c : Parameters) (table : List ℕ) (cut : Cut) (file : List
   pub named : 1 ≤ synced_records
   pub kept : (p : ℕ) → IsFalse (some (discards p) past)
   pub full : FirstsAreFull c.size (reverse (changes_of commits))
+
+-- A table at a moment of a call that finds these commits and leaves those after: it has these, and no
+-- more than those, and no fewer records are durable than when the call came.
+pub record Stands (c : Parameters) (table : List ℕ) (cut : Cut) (file : List ℕ) (start : ℕ)
+    (calls : List DeviceCall) (log_calls : List FileCall) (commits after : List (List LogRecord))
+    (records : ℕ) : Type 0 where
+  pub alive : Bool
+  pub past : Trail
+  pub synced : Trail
+  pub now : List (List LogRecord)
+  pub synced_records : ℕ
+  pub pending : List LogRecord
+  pub ran : TableRan c table cut file start alive past synced calls log_calls now synced_records
+      pending
+  pub no_fewer : records ≤ synced_records
+  pub added : List (List LogRecord)
+  pub to_come : List (List LogRecord)
+  pub grown : now ≡ commits ++ added
+  pub grows : after ≡ now ++ to_come

@@ -7,6 +7,7 @@ ghost use Rattle.bp_trail.specs.Images.{held};
 ghost use Rattle.bp_trail.specs.Lists.{some};
 ghost use Rattle.example_log.specs.Commits.{changes_of};
 ghost use Rattle.example_log.specs.Disk.{DeviceCall};
+ghost use Rattle.example_log.specs.Moments.{pages_in};
 ghost use Rattle.example_log.specs.Files.{FileCall};
 ghost use Rattle.example_table.specs.Images.{AreImaged, AreWhole, IsWhole, is_of, whole_of as whole_is};
 ghost use Rattle.example_table.specs.Marks.{KeepsMarks};
@@ -16,8 +17,9 @@ ghost use Rattle.example_table.specs.TableCalls.{IsTable, TableGoes};
 use crate::table::{Table, TableFault};
 use bp_core::Pass;
 use bp_page::{Bytes, Image, Lsn, PageNo, Refusal};
-use bp_ports::{Port, Store};
+use bp_ports::Port;
 use bp_trail::{LogRecord, redo_record};
+use example_log::LogStore;
 use std::alloc::{AllocError, Global};
 use std::sync::Wait;
 
@@ -73,7 +75,7 @@ fn whole_of(alloc: Global, change: &LogRecord, bytes: &[u8]) -> Result<LogRecord
     })
 }
 
-impl<S: Store, P: Port> Table<S, P> {
+impl<S: LogStore<P>, P: Port> Table<S, P> {
     /// Returns true if the log has an image of this page.
     fn has_image(&self, page: PageNo) -> bool
         ensures { result ≡ slice_index_or self.now.imaged.items page false }
@@ -125,9 +127,9 @@ impl<S: Store, P: Port> Table<S, P> {
             self.old.log →
             (g : TableGoes S.reads S.writes S.syncs P.read_gives P.write_gives P.sync_gives
             self.old.pool self.new.pool self.old.log self.new.log table cut file start calls
-            log_calls
+            log_calls commits records
             (λ after n left. (after ≡ commits) × (left ≡ [])))
-            × IfOk result (λ made. IsWhole self.old.pool.core.parameters.size (g.more ++ calls)
+            × IfOk result (λ made. IsWhole self.old.pool.core.parameters.size ((pages_in g.steps) ++ calls)
             (reverse (changes_of (cut.commits ++ commits))) change.now made) }
         ensures kept { KeepsMarks self.old self.new }
     {
@@ -153,9 +155,9 @@ impl<S: Store, P: Port> Table<S, P> {
             self.old.log → AreImaged self.old.imaged.items (reverse (changes_of commits)) →
             (g : TableGoes S.reads S.writes S.syncs P.read_gives P.write_gives P.sync_gives
             self.old.pool self.new.pool self.old.log self.new.log table cut file start calls
-            log_calls
+            log_calls commits records
             (λ after n left. (after ≡ commits) × (left ≡ [])))
-            × IfOk result (λ made. AreWhole self.old.pool.core.parameters.size (g.more ++ calls)
+            × IfOk result (λ made. AreWhole self.old.pool.core.parameters.size ((pages_in g.steps) ++ calls)
             (reverse (changes_of (cut.commits ++ commits))) (reverse (changes_of commits)) changes.now
             made.items) }
         ensures kept { KeepsMarks self.old self.new }

@@ -10,11 +10,13 @@ ghost use Rattle.example_log.specs.Disk.{DeviceCall, Honest, MayBring, MayLeave}
 ghost use Rattle.example_log.specs.Files.{FileCall, FileLeaves, IsSettled, SettledLeaves, failed, synced as synced_bytes, written as written_bytes};
 ghost use Rattle.example_log.specs.Lives.{LogLife, Reopened, TellsTrue};
 ghost use Rattle.example_log.specs.LogFiles.{Wipes};
+ghost use Rattle.example_log.specs.Moments.{AtEach, Step, log_in, pages_in, spare_in};
 ghost use Rattle.example_log.specs.Promise.{MayBeRedone, Recovers};
+ghost use Rattle.example_table.specs.Checkpoints.{IsMoving};
 ghost use Rattle.example_table.specs.Opening.{AreWithin, Beginning, BeginsBefore, FindsLog, IsNewer, MayBeOpened, again_of};
-ghost use Rattle.example_table.specs.Tables.{Cut, TableRan};
+ghost use Rattle.example_table.specs.Tables.{Cut, Stands, TableRan};
 
-/// Stop a table at any moment of its device since its log was begun, by a loss of power or by the end of its process
+/// Stop a table that ran so at any moment of its device since its log was begun, by a loss of power or by the end of its process
 /// alone, and openings after it at any moment before they redo a page. What is found of its log, whatever the other file
 /// has from before, are then the first commits, each whole, and no fewer than were synced; and whatever the device has may
 /// be redone, to what all commits before that log, and these, make of the first images. It does nothing: its contract is
@@ -39,9 +41,35 @@ pub fn a_crash_is_mended()
         (λ p. redo 0 (reverse (changes_of cut.commits ++ changes)) p (first p)) left }
 {}
 
-/// Stop a table within a checkpoint, once its pages are synced, whatever of the next log is begun: what is found then makes
-/// of the pages what all commits make of the first images. An opening may come, and end, while it makes what it read
-/// durable. When the next log has been begun, and also when a second checkpoint comes, the file of the log before it has
+/// Stop a call of a table at any moment, also between its calls of the device and of the log, by a loss of power. `steps`
+/// are these calls as `commit`, `make_durable` and the fixes tell them, in the order in which they were made, and `so_far`
+/// those until then. What is found of the log are then the first of the commits that the call leaves, each whole, and no
+/// fewer than were synced when it came; and whatever the device has may be redone, to what these make. `other` is what the
+/// other file has. It does nothing: its contract is the law.
+pub fn a_call_may_be_stopped()
+    ensures { (c : Parameters) (tears : Bool) (first left : ℕ → List ℕ)
+        (table file bytes other : List ℕ) (cut : Cut) (start records found last : ℕ)
+        (calls : List DeviceCall) (log_calls : List FileCall) (commits after : List (List Record))
+        (changes : List Record) (steps later so_far : List Step) →
+        AtEach (λ made. Stands c table cut file start (pages_in made ++ calls)
+        (log_in made ++ log_calls) commits after records) steps → steps ≡ later ++ so_far →
+        Honest tears first (pages_in so_far ++ calls) → ((p : ℕ) → length (first p) ≡ c.size) →
+        FileLeaves file (log_in so_far ++ log_calls) bytes →
+        TellsTrue start (synced_bytes file (log_in so_far ++ log_calls))
+        (written_bytes file (log_in so_far ++ log_calls)) bytes →
+        BeginsBefore start other →
+        ((p : ℕ) → MayLeave tears first (pages_in so_far ++ calls) p (left p)) →
+        FindsLog table bytes other found last changes →
+        Kept start records after found last changes × MayBeRedone tears c.size 0 (reverse changes)
+        (λ p. redo 0 (reverse (changes_of cut.commits ++ changes)) p (first p)) left }
+{}
+
+/// Stop a checkpoint at any moment, by a loss of power, also between its calls of the device and of both files: what is
+/// found then are the first commits, each whole, and no fewer than were synced when it came, and redo makes of the pages
+/// what these make; or redo makes what all commits make (`within`). `steps` are its calls as it tells them.
+///
+/// Once its pages are synced, whatever of the next log is begun, that is what all commits make of the first images, also
+/// where an opening comes, and ends, while it makes what it read durable (`moving`). When the next log has been begun, and also when a second checkpoint comes, the file of the log before it has
 /// none that begins as late, whatever a crash leaves of it (`follows`). It does nothing: its contract is the law.
 pub fn a_checkpoint_may_be_stopped()
     ensures moving { (c : Parameters) (tears : Bool) (first left : ℕ → List ℕ)
@@ -63,6 +91,29 @@ pub fn a_checkpoint_may_be_stopped()
         (synced_bytes other_file other_calls) (written_bytes other_file other_calls) other →
         ((p : ℕ) → MayLeave tears first calls p (left p)) →
         MayBeOpened tears c.size table bytes other
+        (λ p. redo 0 (reverse (changes_of (cut.commits ++ commits))) p (first p)) left }
+    ensures within { (c : Parameters) (tears : Bool) (first left : ℕ → List ℕ)
+        (table file other_file bytes other : List ℕ) (cut : Cut) (start records found last : ℕ)
+        (calls : List DeviceCall) (log_calls before : List FileCall) (commits : List (List Record))
+        (changes : List Record) (steps later so_far : List Step) →
+        AtEach (IsMoving c table cut file start calls log_calls commits records other_file before)
+        steps → steps ≡ later ++ so_far →
+        Honest tears first (pages_in so_far ++ calls) → ((p : ℕ) → length (first p) ≡ c.size) →
+        FileLeaves file (log_in so_far ++ log_calls) bytes →
+        TellsTrue start (synced_bytes file (log_in so_far ++ log_calls))
+        (written_bytes file (log_in so_far ++ log_calls)) bytes →
+        length (written_bytes other_file before) ≡ length other_file →
+        BeginsBefore start (synced_bytes other_file before) →
+        BeginsBefore start (written_bytes other_file before) →
+        FileLeaves other_file (spare_in so_far ++ before) other →
+        TellsTrue (start + 1 + length commits) (synced_bytes other_file (spare_in so_far ++ before))
+        (written_bytes other_file (spare_in so_far ++ before)) other →
+        ((p : ℕ) → MayLeave tears first (pages_in so_far ++ calls) p (left p)) →
+        FindsLog table bytes other found last changes →
+        (Kept start records commits found last changes
+        × MayBeRedone tears c.size 0 (reverse changes)
+        (λ p. redo 0 (reverse (changes_of cut.commits ++ changes)) p (first p)) left)
+        ⊎ MayBeRedone tears c.size 0 (reverse changes)
         (λ p. redo 0 (reverse (changes_of (cut.commits ++ commits))) p (first p)) left }
     ensures follows { (file : List ℕ) (start to : ℕ) (alive : Bool) (calls later : List FileCall)
         (log kept : List (List ℕ)) (durable n : ℕ) → LogLife file start alive calls log durable →

@@ -6,11 +6,11 @@ ghost use Rattle.example_table.specs.Opening.{AreWithin, CreatesLog, MovesLog, O
 
 use crate::table::TableFault;
 use bp_page::{Geometry, Lsn, Refusal};
-use bp_ports::{Port, Store};
+use bp_ports::Port;
 use bp_trail::LogRecord;
 use example_log::frames::read_frame;
 use example_log::reading::{first_lsn, head_of, read_log};
-use example_log::{LogFault, LogFile, redo_pages};
+use example_log::{LogFault, LogFile, LogStore, redo_pages};
 use std::alloc::Global;
 use std::sync::Wait;
 
@@ -33,7 +33,7 @@ pub(crate) fn check(device: &Geometry, changes: &[LogRecord]) -> Result<(), Refu
 
 /// Recovers from the newer of two logs with this head: writes it again, and so makes it durable, puts all its commits into
 /// the pages, durably, and begins a log in the file of the older one.
-fn move_log<R: Wait, S: Store, P: Port>(
+fn move_log<R: Wait, S: LogStore<P>, P: Port>(
     rt: &R,
     alloc: Global,
     head: &[u8],
@@ -55,40 +55,41 @@ fn move_log<R: Wait, S: Store, P: Port>(
     if found.last >= u64::MAX - 1 {
         return Err(TableFault::Log(LogFault::Full));
     }
-    newer.settle(alloc, found.records)?;
+    newer.settle(alloc, &*port, found.records)?;
     redo_pages(rt, alloc, port, &found.changes, Lsn::new(0))?;
-    older.begin(alloc, found.last + 1, head)?;
+    older.begin(alloc, &*port, found.last + 1, head)?;
     Ok(())
 }
 
-/// Wipes the second of two files of one size, durably, and begins the log of a table in the first, over the pages as
-/// they are. `OtherSize`, `HasLog` where a record stands at the front of either file, `Memory`, `Device` where a file
+/// Wipes the second of two files of one size, durably, and begins the log of a table in the first, over the pages of
+/// this port as they are. `OtherSize`, `HasLog` where a record stands at the front of either file, `Memory`, `Device` where a file
 /// fails or is shorter than it is to be, and `Full` where the head has no room. Each file is then as it was, or it may be
 /// wiped, in part, and this may be called again.
-pub fn create<S: Store>(
+pub fn create<S: LogStore<P>, P: Port>(
     alloc: Global,
     table: &[u8],
-    device: &Geometry,
+    port: &P,
     one: &mut LogFile<S>,
     two: &mut LogFile<S>,
 ) -> Result<(), LogFault>
-    ensures { CreatesLog S.reads S.writes S.syncs (head_is one.old.size device.now table.now)
+    ensures { CreatesLog (S.reads port.now) (S.writes port.now) (S.syncs port.now)
+        (head_is one.old.size (P.geometry_of port.now) table.now)
         one.old two.old result one.new two.new }
 {
     if one.size != two.size {
         return Err(LogFault::OtherSize);
     }
-    let head = head_of(alloc, one.size, device, table)?;
-    let a = one.read_all(alloc)?;
-    let b = two.read_all(alloc)?;
+    let head = head_of(alloc, one.size, &port.geometry(), table)?;
+    let a = one.read_all(alloc, port)?;
+    let b = two.read_all(alloc, port)?;
     if let Some(_) = read_frame(&a) {
         return Err(LogFault::HasLog);
     }
     if let Some(_) = read_frame(&b) {
         return Err(LogFault::HasLog);
     }
-    two.wipe(alloc)?;
-    one.begin(alloc, 1, &head)
+    two.wipe(alloc, port)?;
+    one.begin(alloc, port, 1, &head)
 }
 
 /// Opens a table after a crash, whose log is in one of two files of one size: makes that log durable, puts its commits
@@ -99,7 +100,7 @@ pub fn create<S: Store>(
 /// `OtherPages` where it is of pages of another number or size, `OtherTable`, `TwoLogs` where both begin at the same LSN,
 /// `OutOfPage` where a change lies in no page, `Memory`, and as `read_log` is refused: before the log was read, nothing
 /// is written.
-pub fn open<R: Wait, S: Store, P: Port>(
+pub fn open<R: Wait, S: LogStore<P>, P: Port>(
     rt: &R,
     alloc: Global,
     table: &[u8],
@@ -115,8 +116,8 @@ pub fn open<R: Wait, S: Store, P: Port>(
         return Err(TableFault::Log(LogFault::OtherSize));
     }
     let head = head_of(alloc, one.size, &port.geometry(), table)?;
-    let a = one.read_all(alloc)?;
-    let b = two.read_all(alloc)?;
+    let a = one.read_all(alloc, &*port)?;
+    let b = two.read_all(alloc, &*port)?;
     if first_lsn(&a, &head)? < first_lsn(&b, &head)? {
         move_log(rt, alloc, &head, &b, &a, port, two, one)?;
         return Ok(false);

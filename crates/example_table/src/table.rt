@@ -10,6 +10,7 @@ ghost use Rattle.bp_trail.specs.declared.records.LogRecord.{LogRecord as Record}
 ghost use Rattle.bp_trail.specs.Trail.{Trail};
 ghost use Rattle.example_log.specs.Commits.{AreChanges, changes_of, payload_of};
 ghost use Rattle.example_log.specs.Disk.{DeviceCall};
+ghost use Rattle.example_log.specs.Moments.{pages_in};
 ghost use Rattle.example_log.specs.Files.{FileCall, failed, written};
 ghost use Rattle.example_table.specs.Checkpoints.{Checkpoints, HasSaved};
 ghost use Rattle.example_log.specs.Heads.{head_of as head_is};
@@ -28,10 +29,10 @@ use crate::opening::check;
 use bp_core::{Pass, Settings, SilentKeeper};
 use bp_device::OwnedPool;
 use bp_page::{Geometry, Lsn, PageNo, Refusal};
-use bp_ports::{Port, Store};
+use bp_ports::Port;
 use bp_trail::LogRecord;
 use example_log::reading::{head_of, put_change};
-use example_log::{LogFault, LogFile};
+use example_log::{LogFault, LogFile, LogStore};
 use std::alloc::{AllocError, AllocFailed, Global};
 use std::mem;
 use std::sync::Wait;
@@ -103,7 +104,7 @@ fn payload(alloc: Global, device: &Geometry, changes: &[LogRecord]) -> Result<Ve
 }
 
 #[derive(Drop)]
-pub struct Table<S: Store, P: Port> {
+pub struct Table<S: Drop, P: Port> {
     pub pool: OwnedPool<SilentKeeper, P>,
     pub log: LogFile<S>,
     /// For each page, whether the log has an image of it: a change of all its bytes.
@@ -112,7 +113,7 @@ pub struct Table<S: Store, P: Port> {
     pub is_ended: bool,
 }
 
-impl<S: Store, P: Port> Table<S, P> {
+impl<S: LogStore<P>, P: Port> Table<S, P> {
     /// Begins with the pages as they are, once they are redone, and a log in which one record names the table. Refused
     /// as `OwnedPool::over` is, and with `Memory`; port and log are then dropped.
     pub fn begin(
@@ -164,7 +165,7 @@ impl<S: Store, P: Port> Table<S, P> {
         if self.log.is_ended {
             return Err(TableFault::Log(LogFault::Ended));
         }
-        self.log.sync()?;
+        self.log.sync(self.pool.port())?;
         self.pool.mark(Lsn::new(self.log.next.saturating_sub(1)))?;
         Ok(())
     }
@@ -215,7 +216,7 @@ impl<S: Store, P: Port> Table<S, P> {
             pending ≡ older ++ under lsn change.now ∷ [] →
             TableGoes S.reads S.writes S.syncs P.read_gives P.write_gives P.sync_gives
             self.old.pool self.new.pool self.old.log self.new.log table cut file start calls
-            log_calls
+            log_calls commits records
             (λ after n left. (after ≡ commits) × ((left ≡ pending) ⊎ (left ≡ older))
             × OnOk result (left ≡ older)) }
         ensures alive { self.old.log.is_ended ≡ false →
@@ -251,7 +252,7 @@ impl<S: Store, P: Port> Table<S, P> {
             (reverse changes.now ++ reverse (changes_of commits)) →
             TableGoes S.reads S.writes S.syncs P.read_gives P.write_gives P.sync_gives
             self.old.pool self.new.pool self.old.log self.new.log table cut file start calls
-            log_calls
+            log_calls commits records
             (λ after n left. (((after ≡ commits) × (self.new.imaged.items ≡ self.old.imaged.items))
             ⊎ (after ≡ commits ++ map (under (start + 1 + length commits)) changes.now ∷ []))
             × (self.new.is_ended ≡ false → left ≡ [])
@@ -266,7 +267,7 @@ impl<S: Store, P: Port> Table<S, P> {
             return Err(TableFault::Log(LogFault::Full));
         }
         let payload = payload(alloc, &self.pool.port().geometry(), changes)?;
-        let lsn = match self.log.append(alloc, &payload) {
+        let lsn = match self.log.append(alloc, self.pool.port(), &payload) {
             Ok(lsn) => lsn,
             Err(fault) => {
                 self.is_ended = self.log.is_ended;
@@ -318,12 +319,12 @@ impl<S: Store, P: Port> Table<S, P> {
             self.old.log → AreImaged self.old.imaged.items (reverse (changes_of commits)) →
             (g : TableGoes S.reads S.writes S.syncs P.read_gives P.write_gives P.sync_gives
             self.old.pool self.new.pool self.old.log self.new.log table cut file start calls
-            log_calls
+            log_calls commits records
             (λ after n left. (self.new.is_ended ≡ false → left ≡ [])
             × AreImaged self.new.imaged.items (reverse (changes_of after))))
             × LeavesCommit cut calls commits (start + 1 + length commits) changes.now
             self.new.is_ended
-            result g.more g.commits }
+            result (pages_in g.steps) g.commits }
     {
         if self.is_ended || self.log.is_ended {
             return Err(TableFault::Log(LogFault::Ended));
@@ -392,7 +393,7 @@ impl<S: Store, P: Port> Table<S, P> {
             spare.old.size ≡ length other → Checkpoints S.reads S.writes S.syncs P.read_gives
             P.write_gives P.sync_gives self.old.pool self.new.pool self.old.log self.new.log spare.old
             spare.new (head_is self.old.log.size (P.geometry_of self.old.pool.port) table.now) cut file
-            start calls log_calls commits other before result }
+            start calls log_calls commits records other before result }
         ensures refused { OnErr result ((self.new.is_ended ≡ true) ⊎ (spare.new ≡ spare.old)) }
         ensures alive { OnOk result
             ((self.new.is_ended ≡ false) × (self.new.log.is_ended ≡ false)) }
@@ -413,7 +414,7 @@ impl<S: Store, P: Port> Table<S, P> {
         self.is_ended = true;
         self.save_pages(rt)?;
         // No LSN is 0.
-        spare.begin(alloc, self.log.next.max(1), &head)?;
+        spare.begin(alloc, self.pool.port(), self.log.next.max(1), &head)?;
         mem::swap(&mut self.log, spare);
         self.imaged.fill(false);
         self.is_ended = false;

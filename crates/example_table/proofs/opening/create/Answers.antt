@@ -1,4 +1,4 @@
-use Rattle.std.proofs.Common.{inl, inr, refl, ◌∙◌, subst, is_ok}
+use Rattle.std.proofs.Common.{inl, inr, refl, ap, ◌∙◌, subst, is_ok}
 use Rattle.std.specs.Prelude.{IfErr}
 use Rattle.example_log.specs.declared.log.LogFault.TheVariants.{Memory}
 use Rattle.example_log.specs.Frames.{NoFrame}
@@ -14,13 +14,13 @@ pub returns-then-one-two : goal.returns-then-one-two
 returns-then-one-two g c = sizes c.if-one-two.true
 
 pub returns-in_err-head : goal.returns-in_err-head
-returns-in_err-head g c = created-as g.S.Store.reads g.S.Store.writes g.S.Store.syncs (head_of c.args.one.now.size c.args.device.now c.args.table.now) c.args.one.now c.args.two.now c.args.one.now c.args.two.now c.from_residual.result Memory c.from_residual.ensures.1 (unread_one c.if-one-two.false (no_memory refl))
+returns-in_err-head g c = created-as (g.S.LogStore.reads c.args.port.now) (g.S.LogStore.writes c.args.port.now) (g.S.LogStore.syncs c.args.port.now) (head_of c.args.one.now.size (g.P.Port.geometry_of c.args.port.now) c.args.table.now) c.args.one.now c.args.two.now c.args.one.now c.args.two.now c.from_residual.result Memory c.from_residual.ensures.1 (unread_one c.if-one-two.false (no_memory refl))
 
 pub returns-in_err-a : goal.returns-in_err-a
-returns-in_err-a g c = created-as g.S.Store.reads g.S.Store.writes g.S.Store.syncs (head_of c.args.one.now.size c.args.device.now c.args.table.now) c.args.one.now c.args.two.now c.read_all.new.self c.args.two.now c.from_residual-in_err-a.result c.in_err-a.field-0.0 c.from_residual-in_err-a.ensures.1 (unread_one c.if-one-two.false c.in_err-a.ensures.unread)
+returns-in_err-a g c = created-as (g.S.LogStore.reads c.args.port.now) (g.S.LogStore.writes c.args.port.now) (g.S.LogStore.syncs c.args.port.now) (head_of c.args.one.now.size (g.P.Port.geometry_of c.args.port.now) c.args.table.now) c.args.one.now c.args.two.now c.read_all.new.self c.args.two.now c.from_residual-in_err-a.result c.in_err-a.field-0.0 c.from_residual-in_err-a.ensures.1 (unread_one c.if-one-two.false c.in_err-a.ensures.unread)
 
 pub returns-in_err-b : goal.returns-in_err-b
-returns-in_err-b g c = created-as g.S.Store.reads g.S.Store.writes g.S.Store.syncs (head_of c.args.one.now.size c.args.device.now c.args.table.now) c.args.one.now c.args.two.now c.read_all.new.self c.read_all-2.new.self c.from_residual-in_err-b.result c.in_err-b.field-0.0 c.from_residual-in_err-b.ensures.1 (unread_two c.in_ok-a.a.items c.if-one-two.false c.in_ok-a.ensures.read.1 c.in_err-b.ensures.unread)
+returns-in_err-b g c = created-as (g.S.LogStore.reads c.args.port.now) (g.S.LogStore.writes c.args.port.now) (g.S.LogStore.syncs c.args.port.now) (head_of c.args.one.now.size (g.P.Port.geometry_of c.args.port.now) c.args.table.now) c.args.one.now c.args.two.now c.read_all.new.self c.read_all-2.new.self c.from_residual-in_err-b.result c.in_err-b.field-0.0 c.from_residual-in_err-b.ensures.1 (unread_two c.in_ok-a.a.items c.if-one-two.false c.in_ok-a.ensures.read.1 c.in_err-b.ensures.unread)
 
 pub returns-in-Some : goal.returns-in-Some
 returns-in-Some g c =
@@ -32,7 +32,7 @@ returns-in-Some-read_frame g c =
 
 pub returns-in_err-wipe : goal.returns-in_err-wipe
 returns-in_err-wipe g c =
-    created-as g.S.Store.reads g.S.Store.writes g.S.Store.syncs (head_of c.args.one.now.size c.args.device.now c.args.table.now) c.args.one.now c.args.two.now c.read_all.new.self c.wipe.new.self c.from_residual-in_err-wipe.result c.in_err-wipe.field-0.0 c.from_residual-in_err-wipe.ensures.1
+    created-as (g.S.LogStore.reads c.args.port.now) (g.S.LogStore.writes c.args.port.now) (g.S.LogStore.syncs c.args.port.now) (head_of c.args.one.now.size (g.P.Port.geometry_of c.args.port.now) c.args.table.now) c.args.one.now c.args.two.now c.read_all.new.self c.wipe.new.self c.from_residual-in_err-wipe.result c.in_err-wipe.field-0.0 c.from_residual-in_err-wipe.ensures.1
     (unwiped c.read_all-2.new.self
     (record {
       a = c.in_ok-a.a.items;
@@ -59,8 +59,8 @@ returns g c =
       same = (c.in_ok-a.ensures.same.0, c.in_ok-b.ensures.same.0);
       blank = (subst NoFrame c.deref.ensures.value c.in_default.ensures.none, subst NoFrame c.deref-2.ensures.value c.in_default-read_frame.ensures.none);
     })
-    (emptied g.S.Store.reads g.S.Store.writes g.S.Store.syncs c.read_all-2.new.self c.wipe.new.self c.in_ok-wipe.ensures.wiped)
-    (subst (λ t. BeginsLog g.S.Store.reads g.S.Store.writes g.S.Store.syncs c.read_all.new.self c.begin.new.self 1 t (is_ok c.begin.result)) (c.deref-3.ensures.value ∙ c.in_ok-head.ensures)
-    (begins-log g.S.Store.reads g.S.Store.writes g.S.Store.syncs c.read_all.new.self c.begin.new.self 1 c.deref-3.result.now (is_ok c.begin.result) c.begin.ensures.begins))
-    (subst (λ n. IfErr c.begin.result (BeginFault n 1 (head_of c.args.one.now.size c.args.device.now c.args.table.now))) c.in_ok-a.ensures.same.0
-    (subst (λ t. IfErr c.begin.result (BeginFault c.read_all.new.self.size 1 t)) (c.deref-3.ensures.value ∙ c.in_ok-head.ensures) c.begin.ensures.fault))
+    (emptied (g.S.LogStore.reads c.args.port.now) (g.S.LogStore.writes c.args.port.now) (g.S.LogStore.syncs c.args.port.now) c.read_all-2.new.self c.wipe.new.self c.in_ok-wipe.ensures.wiped)
+    (subst (λ t. BeginsLog (g.S.LogStore.reads c.args.port.now) (g.S.LogStore.writes c.args.port.now) (g.S.LogStore.syncs c.args.port.now) c.read_all.new.self c.begin.new.self 1 t (is_ok c.begin.result)) (c.deref-3.ensures.value ∙ c.in_ok-head.ensures ∙ ap (λ d. head_of c.args.one.now.size d c.args.table.now) c.geometry.ensures)
+    (begins-log (g.S.LogStore.reads c.args.port.now) (g.S.LogStore.writes c.args.port.now) (g.S.LogStore.syncs c.args.port.now) c.read_all.new.self c.begin.new.self 1 c.deref-3.result.now (is_ok c.begin.result) c.begin.ensures.begins))
+    (subst (λ n. IfErr c.begin.result (BeginFault n 1 (head_of c.args.one.now.size (g.P.Port.geometry_of c.args.port.now) c.args.table.now))) c.in_ok-a.ensures.same.0
+    (subst (λ t. IfErr c.begin.result (BeginFault c.read_all.new.self.size 1 t)) (c.deref-3.ensures.value ∙ c.in_ok-head.ensures ∙ ap (λ d. head_of c.args.one.now.size d c.args.table.now) c.geometry.ensures) c.begin.ensures.fault))

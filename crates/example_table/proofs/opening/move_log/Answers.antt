@@ -1,11 +1,11 @@
-use Rattle.std.proofs.Common.{◌+◌, true, false, subst, ap, arith}
+use Rattle.std.proofs.Common.{refl, true, false, subst, ap, arith}
 use Rattle.example_log.specs.LogFiles.{Settles}
-use Rattle.example_table.specs.Opening.MovesLog.{refused, unsettled, stopped, moved}
+use Rattle.example_table.specs.Opening.MovesLog.{refused}
 use Rattle.std.specs.Prelude.{Ok, Err}
 use Rattle.example_log.specs.declared.log.LogFault.TheVariants.{Full, TwoLogs}
 use Rattle.example_table.specs.declared.table.TableFault.TheVariants.{Log, Pages}
 use Rattle.example_table.specs.Opening.MoveFault.{newer_fault, older_fault, two_logs, no_lsn}
-use Rattle.example_table.proofs.Openings.{again-is, begins-log, beyond-as, found, late, not-moved, redid, refused-as}
+use Rattle.example_table.proofs.Openings.{again-is, beyond-as, found, late, not-moved, redid, refused-as, was-moved, was-stopped, was-unsettled}
 use Rattle.example_table.proofs.opening.move_log.Goals as goal
 
 pub returns-in_err-settle : goal.returns-in_err-settle
@@ -16,8 +16,8 @@ returns-in_err-settle g c = λ long.
     let f = found device c.args.head.now c.args.bytes.now c.args.other.now c.geometry.result.pages c.geometry.result.size x.first x.last c.in_ok-first_lsn.field-0 x.changes.items c.deref.result.now read.0 c.in_ok-first_lsn.ensures.first (omega arith) (ap (λ d. d.pages) c.geometry.ensures) (ap (λ d. d.size) c.geometry.ensures) c.in_ok-check.ensures.within c.deref.ensures.value in
     let again = again-is c.args.head.now c.args.bytes.now c.args.other.now x.records.now x.first x.last c.args.newer.now.size x.changes.items f.is_newer long read.1 in
     let settled = subst (λ t. Settles t c.in_err-settle.ensures.did.0 false) again c.in_err-settle.ensures.did.2 in
-    not-moved g.S.Store.reads g.S.Store.writes g.S.Store.syncs g.P.Port.read_gives g.P.Port.write_gives g.P.Port.sync_gives (g.P.Port.geometry_of c.args.port.now) c.args.head.now c.args.bytes.now c.args.other.now c.args.port.now c.args.port.now c.args.newer.now c.args.older.now c.settle.new.self c.args.older.now c.from_residual-in_err-settle.result c.from_residual-in_err-settle.ensures.0
-    (λ why. unsettled f c.in_err-settle.ensures.did.0 why c.in_err-settle.ensures.did.1 settled))
+    not-moved g.S.LogStore.reads g.S.LogStore.writes g.S.LogStore.syncs g.P.Port.read_gives g.P.Port.write_gives g.P.Port.sync_gives (g.P.Port.geometry_of c.args.port.now) c.args.head.now c.args.bytes.now c.args.other.now c.args.port.now c.args.port.now c.args.newer.now c.args.older.now c.settle.new.self c.args.older.now c.from_residual-in_err-settle.result c.from_residual-in_err-settle.ensures.0
+    (was-unsettled g.S.LogStore.reads g.S.LogStore.writes g.S.LogStore.syncs g.P.Port.read_gives g.P.Port.write_gives g.P.Port.sync_gives (g.P.Port.geometry_of c.args.port.now) c.args.head.now c.args.bytes.now c.args.other.now c.args.port.now c.args.newer.now c.args.older.now c.settle.new.self f c.in_err-settle.ensures.did.0 false c.in_err-settle.ensures.did.1 settled refl))
 
 pub returns-in_err-redo_pages : goal.returns-in_err-redo_pages
 returns-in_err-redo_pages g c = λ long.
@@ -28,8 +28,8 @@ returns-in_err-redo_pages g c = λ long.
     let again = again-is c.args.head.now c.args.bytes.now c.args.other.now x.records.now x.first x.last c.args.newer.now.size x.changes.items f.is_newer long read.1 in
     let settled = subst (λ t. Settles t c.in_ok-settle.ensures.did.0 true) again c.in_ok-settle.ensures.did.2 in
     let redone = redid g.P.Port.read_gives g.P.Port.write_gives g.P.Port.sync_gives device x.changes.items c.deref-2.result.now c.new.result c.args.port.now c.redo_pages.new.port false c.new.ensures c.deref-2.ensures.value c.in_err-redo_pages.ensures.redone in
-    not-moved g.S.Store.reads g.S.Store.writes g.S.Store.syncs g.P.Port.read_gives g.P.Port.write_gives g.P.Port.sync_gives (g.P.Port.geometry_of c.args.port.now) c.args.head.now c.args.bytes.now c.args.other.now c.args.port.now c.redo_pages.new.port c.args.newer.now c.args.older.now c.settle.new.self c.args.older.now c.from_residual-in_err-redo_pages.result c.from_residual-in_err-redo_pages.ensures.0
-    (λ why. stopped f c.in_ok-settle.ensures.did.0 false why c.in_ok-settle.ensures.did.1 settled redone))
+    not-moved g.S.LogStore.reads g.S.LogStore.writes g.S.LogStore.syncs g.P.Port.read_gives g.P.Port.write_gives g.P.Port.sync_gives (g.P.Port.geometry_of c.args.port.now) c.args.head.now c.args.bytes.now c.args.other.now c.args.port.now c.redo_pages.new.port c.args.newer.now c.args.older.now c.settle.new.self c.args.older.now c.from_residual-in_err-redo_pages.result c.from_residual-in_err-redo_pages.ensures.0
+    (was-stopped g.S.LogStore.reads g.S.LogStore.writes g.S.LogStore.syncs g.P.Port.read_gives g.P.Port.write_gives g.P.Port.sync_gives (g.P.Port.geometry_of c.args.port.now) c.args.head.now c.args.bytes.now c.args.other.now c.args.port.now c.args.newer.now c.args.older.now c.settle.new.self f c.in_ok-settle.ensures.did.0 true c.in_ok-settle.ensures.did.1 settled refl c.redo_pages.new.port false redone))
 
 pub returns-in_err-begin : goal.returns-in_err-begin
 returns-in_err-begin g c = λ long.
@@ -40,8 +40,8 @@ returns-in_err-begin g c = λ long.
     let again = again-is c.args.head.now c.args.bytes.now c.args.other.now x.records.now x.first x.last c.args.newer.now.size x.changes.items f.is_newer long read.1 in
     let settled = subst (λ t. Settles t c.in_ok-settle.ensures.did.0 true) again c.in_ok-settle.ensures.did.2 in
     let redone = redid g.P.Port.read_gives g.P.Port.write_gives g.P.Port.sync_gives device x.changes.items c.deref-2.result.now c.new.result c.args.port.now c.redo_pages.new.port true c.new.ensures c.deref-2.ensures.value c.in_ok-redo_pages.ensures.redone in
-    not-moved g.S.Store.reads g.S.Store.writes g.S.Store.syncs g.P.Port.read_gives g.P.Port.write_gives g.P.Port.sync_gives (g.P.Port.geometry_of c.args.port.now) c.args.head.now c.args.bytes.now c.args.other.now c.args.port.now c.redo_pages.new.port c.args.newer.now c.args.older.now c.settle.new.self c.begin.new.self c.from_residual-in_err-begin.result c.from_residual-in_err-begin.ensures.0
-    (λ why. moved f c.in_ok-settle.ensures.did.0 (Err why) c.in_ok-settle.ensures.did.1 settled redone (begins-log g.S.Store.reads g.S.Store.writes g.S.Store.syncs c.args.older.now c.begin.new.self (x.last + 1) c.args.head.now false c.in_err-begin.ensures.begins)))
+    not-moved g.S.LogStore.reads g.S.LogStore.writes g.S.LogStore.syncs g.P.Port.read_gives g.P.Port.write_gives g.P.Port.sync_gives (g.P.Port.geometry_of c.args.port.now) c.args.head.now c.args.bytes.now c.args.other.now c.args.port.now c.redo_pages.new.port c.args.newer.now c.args.older.now c.settle.new.self c.begin.new.self c.from_residual-in_err-begin.result c.from_residual-in_err-begin.ensures.0
+    (λ why. was-moved g.S.LogStore.reads g.S.LogStore.writes g.S.LogStore.syncs g.P.Port.read_gives g.P.Port.write_gives g.P.Port.sync_gives (g.P.Port.geometry_of c.args.port.now) c.args.head.now c.args.bytes.now c.args.other.now c.args.port.now c.args.newer.now c.args.older.now c.settle.new.self f c.in_ok-settle.ensures.did.0 true c.in_ok-settle.ensures.did.1 settled refl c.redo_pages.new.port true redone refl c.begin.new.self false c.in_err-begin.ensures.begins (Err why) refl))
 
 pub returns : goal.returns
 returns g c = λ long.
@@ -52,21 +52,21 @@ returns g c = λ long.
     let again = again-is c.args.head.now c.args.bytes.now c.args.other.now x.records.now x.first x.last c.args.newer.now.size x.changes.items f.is_newer long read.1 in
     let settled = subst (λ t. Settles t c.in_ok-settle.ensures.did.0 true) again c.in_ok-settle.ensures.did.2 in
     let redone = redid g.P.Port.read_gives g.P.Port.write_gives g.P.Port.sync_gives device x.changes.items c.deref-2.result.now c.new.result c.args.port.now c.redo_pages.new.port true c.new.ensures c.deref-2.ensures.value c.in_ok-redo_pages.ensures.redone in
-    moved f c.in_ok-settle.ensures.did.0 (Ok tt) c.in_ok-settle.ensures.did.1 settled redone (begins-log g.S.Store.reads g.S.Store.writes g.S.Store.syncs c.args.older.now c.begin.new.self (x.last + 1) c.args.head.now true c.in_ok-begin.ensures.begins))
+    was-moved g.S.LogStore.reads g.S.LogStore.writes g.S.LogStore.syncs g.P.Port.read_gives g.P.Port.write_gives g.P.Port.sync_gives (g.P.Port.geometry_of c.args.port.now) c.args.head.now c.args.bytes.now c.args.other.now c.args.port.now c.args.newer.now c.args.older.now c.settle.new.self f c.in_ok-settle.ensures.did.0 true c.in_ok-settle.ensures.did.1 settled refl c.redo_pages.new.port true redone refl c.begin.new.self true c.in_ok-begin.ensures.begins (Ok tt) refl)
 
 pub returns-in_err-found : goal.returns-in_err-found
 returns-in_err-found g c = λ long.
-    (refused-as g.S.Store.reads g.S.Store.writes g.S.Store.syncs g.P.Port.read_gives g.P.Port.write_gives g.P.Port.sync_gives (g.P.Port.geometry_of c.args.port.now) c.args.head.now c.args.bytes.now c.args.other.now c.args.port.now c.args.port.now c.args.newer.now c.args.older.now c.args.newer.now c.args.older.now c.from_residual.result (Log c.in_err-found.field-0.0) c.from_residual.ensures.1
+    (refused-as g.S.LogStore.reads g.S.LogStore.writes g.S.LogStore.syncs g.P.Port.read_gives g.P.Port.write_gives g.P.Port.sync_gives (g.P.Port.geometry_of c.args.port.now) c.args.head.now c.args.bytes.now c.args.other.now c.args.port.now c.args.port.now c.args.newer.now c.args.older.now c.args.newer.now c.args.older.now c.from_residual.result (Log c.in_err-found.field-0.0) c.from_residual.ensures.1
     (refused (Log c.in_err-found.field-0.0) (newer_fault c.in_err-found.ensures.fault)))
 
 pub returns-in_err-first_lsn : goal.returns-in_err-first_lsn
 returns-in_err-first_lsn g c = λ long.
-    (refused-as g.S.Store.reads g.S.Store.writes g.S.Store.syncs g.P.Port.read_gives g.P.Port.write_gives g.P.Port.sync_gives (g.P.Port.geometry_of c.args.port.now) c.args.head.now c.args.bytes.now c.args.other.now c.args.port.now c.args.port.now c.args.newer.now c.args.older.now c.args.newer.now c.args.older.now c.from_residual-in_err-first_lsn.result (Log c.in_err-first_lsn.field-0.0) c.from_residual-in_err-first_lsn.ensures.1
+    (refused-as g.S.LogStore.reads g.S.LogStore.writes g.S.LogStore.syncs g.P.Port.read_gives g.P.Port.write_gives g.P.Port.sync_gives (g.P.Port.geometry_of c.args.port.now) c.args.head.now c.args.bytes.now c.args.other.now c.args.port.now c.args.port.now c.args.newer.now c.args.older.now c.args.newer.now c.args.older.now c.from_residual-in_err-first_lsn.result (Log c.in_err-first_lsn.field-0.0) c.from_residual-in_err-first_lsn.ensures.1
     (refused (Log c.in_err-first_lsn.field-0.0) (older_fault c.in_err-first_lsn.ensures.other)))
 
 pub returns-in_err-check : goal.returns-in_err-check
 returns-in_err-check g c = λ long.
-    (refused-as g.S.Store.reads g.S.Store.writes g.S.Store.syncs g.P.Port.read_gives g.P.Port.write_gives g.P.Port.sync_gives (g.P.Port.geometry_of c.args.port.now) c.args.head.now c.args.bytes.now c.args.other.now c.args.port.now c.args.port.now c.args.newer.now c.args.older.now c.args.newer.now c.args.older.now c.from_residual-in_err-check.result (Pages c.in_err-check.field-0.0) c.from_residual-in_err-check.ensures.1
+    (refused-as g.S.LogStore.reads g.S.LogStore.writes g.S.LogStore.syncs g.P.Port.read_gives g.P.Port.write_gives g.P.Port.sync_gives (g.P.Port.geometry_of c.args.port.now) c.args.head.now c.args.bytes.now c.args.other.now c.args.port.now c.args.port.now c.args.newer.now c.args.older.now c.args.newer.now c.args.older.now c.from_residual-in_err-check.result (Pages c.in_err-check.field-0.0) c.from_residual-in_err-check.ensures.1
     (refused (Pages c.in_err-check.field-0.0) (beyond-as _ c.args.head.now c.args.bytes.now c.args.other.now c.geometry.result.pages c.geometry.result.size _ _ c.in_ok-found.found.changes.items c.deref.result.now c.in_err-check.field-0.0 c.in_ok-found.ensures.read.0 (ap (λ d. d.pages) c.geometry.ensures) (ap (λ d. d.size) c.geometry.ensures) c.deref.ensures.value c.in_err-check.ensures.beyond)))
 
 pub returns-then-branch-found : goal.returns-then-branch-found

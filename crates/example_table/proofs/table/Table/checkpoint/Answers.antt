@@ -1,57 +1,58 @@
-use Rattle.std.proofs.Common.{◌≡◌, ◌∙◌, ◌+◌, ◌++◌, [], max, refl, ap, true, false, length}
+use Rattle.example_log.specs.Moments.{log_in, pages_in}
+use Rattle.std.proofs.Common.{◌≡◌, ◌∙◌, ◌+◌, ◌++◌, [], max, refl, sym, ap, true, false, length}
 use Rattle.example_log.specs.declared.log.LogFile.{LogFile}
 use Rattle.example_table.specs.Checkpoints.Checkpoints.{stopped}
 use Rattle.example_log.specs.Heads.{head_of}
 use Rattle.example_table.proofs.Checkpoints.{does-begin, does-move, does-not, durable-is}
 use Rattle.example_table.proofs.Openings.{begins-log}
-use Rattle.example_table.proofs.Tabling.{table-stays, table-then, table-weaken}
+use Rattle.example_table.proofs.Tabling.{table-next, table-stays, table-weaken}
 use Rattle.example_table.proofs.Wholes.{none-imaged}
 use Rattle.example_table.proofs.table.Table.checkpoint.Goals as goal
 
 pub returns-then-self-clause-goes : goal.returns-then-self-clause-goes
 returns-then-self-clause-goes g c = λ cut file other start records synced calls log_calls before commits is well long size.
-    stopped (table-stays g.S.Store.reads g.S.Store.writes g.S.Store.syncs g.P.Port.read_gives g.P.Port.write_gives g.P.Port.sync_gives (head_of c.args.self.now.log.size (g.P.Port.geometry_of c.args.self.now.pool.port) c.args.table.now) cut file start synced calls log_calls commits records [] c.args.self.now.pool c.args.self.now.log is _ (refl, refl)) refl
+    stopped (table-stays g.S.LogStore.reads g.S.LogStore.writes g.S.LogStore.syncs g.P.Port.read_gives g.P.Port.write_gives g.P.Port.sync_gives (head_of c.args.self.now.log.size (g.P.Port.geometry_of c.args.self.now.pool.port) c.args.table.now) cut file start synced calls log_calls commits records [] c.args.self.now.pool c.args.self.now.log is _ (refl, refl)) refl
 
 pub returns-then-spare-self-clause-goes : goal.returns-then-spare-self-clause-goes
 returns-then-spare-self-clause-goes g c = λ cut file other start records synced calls log_calls before commits is well long size.
-    stopped (table-stays g.S.Store.reads g.S.Store.writes g.S.Store.syncs g.P.Port.read_gives g.P.Port.write_gives g.P.Port.sync_gives (head_of c.args.self.now.log.size (g.P.Port.geometry_of c.args.self.now.pool.port) c.args.table.now) cut file start synced calls log_calls commits records [] c.args.self.now.pool c.args.self.now.log is _ (refl, refl)) refl
+    stopped (table-stays g.S.LogStore.reads g.S.LogStore.writes g.S.LogStore.syncs g.P.Port.read_gives g.P.Port.write_gives g.P.Port.sync_gives (head_of c.args.self.now.log.size (g.P.Port.geometry_of c.args.self.now.pool.port) c.args.table.now) cut file start synced calls log_calls commits records [] c.args.self.now.pool c.args.self.now.log is _ (refl, refl)) refl
 
 pub returns-in_err-head-clause-goes : goal.returns-in_err-head-clause-goes
 returns-in_err-head-clause-goes g c = λ cut file other start records synced calls log_calls before commits is well long size.
-    does-not g.S.Store.reads g.S.Store.writes g.S.Store.syncs g.P.Port.read_gives g.P.Port.write_gives g.P.Port.sync_gives (head_of c.args.self.now.log.size (g.P.Port.geometry_of c.args.self.now.pool.port) c.args.table.now) cut file start calls log_calls commits c.args.self.now.pool c.args.self.now.pool c.args.self.now.log c.args.self.now.log c.args.spare.now c.args.spare.now other before c.from_residual.result c.from_residual.ensures.0
-    (λ why. stopped (table-stays g.S.Store.reads g.S.Store.writes g.S.Store.syncs g.P.Port.read_gives g.P.Port.write_gives g.P.Port.sync_gives (head_of c.args.self.now.log.size (g.P.Port.geometry_of c.args.self.now.pool.port) c.args.table.now) cut file start synced calls log_calls commits records [] c.args.self.now.pool c.args.self.now.log is _ (refl, refl)) refl)
+    does-not g.S.LogStore.reads g.S.LogStore.writes g.S.LogStore.syncs g.P.Port.read_gives g.P.Port.write_gives g.P.Port.sync_gives (head_of c.args.self.now.log.size (g.P.Port.geometry_of c.args.self.now.pool.port) c.args.table.now) cut file start calls log_calls commits records c.args.self.now.pool c.args.self.now.pool c.args.self.now.log c.args.self.now.log c.args.spare.now c.args.spare.now other before c.from_residual.result c.from_residual.ensures.0
+    (λ why. stopped (table-stays g.S.LogStore.reads g.S.LogStore.writes g.S.LogStore.syncs g.P.Port.read_gives g.P.Port.write_gives g.P.Port.sync_gives (head_of c.args.self.now.log.size (g.P.Port.geometry_of c.args.self.now.pool.port) c.args.table.now) cut file start synced calls log_calls commits records [] c.args.self.now.pool c.args.self.now.log is _ (refl, refl)) refl)
 
 pub returns-in_err-make_durable-clause-goes : goal.returns-in_err-make_durable-clause-goes
 returns-in_err-make_durable-clause-goes g c = λ cut file other start records synced calls log_calls before commits is well long size.
-    does-not g.S.Store.reads g.S.Store.writes g.S.Store.syncs g.P.Port.read_gives g.P.Port.write_gives g.P.Port.sync_gives (head_of c.args.self.now.log.size (g.P.Port.geometry_of c.args.self.now.pool.port) c.args.table.now) cut file start calls log_calls commits c.args.self.now.pool c.make_durable.new.self.pool c.args.self.now.log c.make_durable.new.self.log c.args.spare.now c.args.spare.now other before c.from_residual-in_err-make_durable.result c.from_residual-in_err-make_durable.ensures.0
-    (λ why. stopped (table-weaken g.S.Store.reads g.S.Store.writes g.S.Store.syncs g.P.Port.read_gives g.P.Port.write_gives g.P.Port.sync_gives (head_of c.args.self.now.log.size (g.P.Port.geometry_of c.args.self.now.pool.port) c.args.table.now) cut file start c.args.self.now.pool c.make_durable.new.self.pool c.args.self.now.log c.make_durable.new.self.log calls log_calls _ _ (λ cs n left p. (p.0, p.1)) (c.in_err-make_durable.ensures.goes (head_of c.args.self.now.log.size (g.P.Port.geometry_of c.args.self.now.pool.port) c.args.table.now) cut file start records synced calls log_calls commits [] is)) refl)
+    does-not g.S.LogStore.reads g.S.LogStore.writes g.S.LogStore.syncs g.P.Port.read_gives g.P.Port.write_gives g.P.Port.sync_gives (head_of c.args.self.now.log.size (g.P.Port.geometry_of c.args.self.now.pool.port) c.args.table.now) cut file start calls log_calls commits records c.args.self.now.pool c.make_durable.new.self.pool c.args.self.now.log c.make_durable.new.self.log c.args.spare.now c.args.spare.now other before c.from_residual-in_err-make_durable.result c.from_residual-in_err-make_durable.ensures.0
+    (λ why. stopped (table-weaken g.S.LogStore.reads g.S.LogStore.writes g.S.LogStore.syncs g.P.Port.read_gives g.P.Port.write_gives g.P.Port.sync_gives (head_of c.args.self.now.log.size (g.P.Port.geometry_of c.args.self.now.pool.port) c.args.table.now) cut file start c.args.self.now.pool c.make_durable.new.self.pool c.args.self.now.log c.make_durable.new.self.log calls log_calls _ _ (λ cs n left p. (p.0, p.1)) (c.in_err-make_durable.ensures.goes (head_of c.args.self.now.log.size (g.P.Port.geometry_of c.args.self.now.pool.port) c.args.table.now) cut file start records synced calls log_calls commits [] is)) refl)
 
 pub returns-in_err-save_pages-clause-goes : goal.returns-in_err-save_pages-clause-goes
 returns-in_err-save_pages-clause-goes g c = λ cut file other start records synced calls log_calls before commits is well long size.
     (let d = c.in_ok-make_durable.ensures.goes (head_of c.args.self.now.log.size (g.P.Port.geometry_of c.args.self.now.pool.port) c.args.table.now) cut file start records synced calls log_calls commits [] is in
-    let is_durable = durable-is g.S.Store.reads g.S.Store.writes g.S.Store.syncs g.P.Port.read_gives g.P.Port.write_gives g.P.Port.sync_gives (head_of c.args.self.now.log.size (g.P.Port.geometry_of c.args.self.now.pool.port) c.args.table.now) cut file start calls log_calls commits c.args.self.now.pool c.make_durable.new.self.pool c.make_durable.new.self.pool c.args.self.now.log c.make_durable.new.self.log d in
-    does-not g.S.Store.reads g.S.Store.writes g.S.Store.syncs g.P.Port.read_gives g.P.Port.write_gives g.P.Port.sync_gives (head_of c.args.self.now.log.size (g.P.Port.geometry_of c.args.self.now.pool.port) c.args.table.now) cut file start calls log_calls commits c.args.self.now.pool c.save_pages.new.self.pool c.args.self.now.log c.save_pages.new.self.log c.args.spare.now c.args.spare.now other before c.from_residual-in_err-save_pages.result c.from_residual-in_err-save_pages.ensures.0
-    (λ why. stopped (table-then g.S.Store.reads g.S.Store.writes g.S.Store.syncs g.P.Port.read_gives g.P.Port.write_gives g.P.Port.sync_gives (head_of c.args.self.now.log.size (g.P.Port.geometry_of c.args.self.now.pool.port) c.args.table.now) cut file start c.args.self.now.pool c.make_durable.new.self.pool c.save_pages.new.self.pool c.args.self.now.log c.make_durable.new.self.log c.save_pages.new.self.log calls log_calls _ (λ after n left. (after ≡ commits) × (left ≡ [])) d
-    (c.in_err-save_pages.ensures.goes (head_of c.args.self.now.log.size (g.P.Port.geometry_of c.args.self.now.pool.port) c.args.table.now) cut file start (1 + length commits) d.synced (d.more ++ calls) (d.more_log ++ log_calls) commits [] is_durable)) refl))
+    let is_durable = durable-is g.S.LogStore.reads g.S.LogStore.writes g.S.LogStore.syncs g.P.Port.read_gives g.P.Port.write_gives g.P.Port.sync_gives (head_of c.args.self.now.log.size (g.P.Port.geometry_of c.args.self.now.pool.port) c.args.table.now) cut file start calls log_calls commits c.args.self.now.pool c.make_durable.new.self.pool c.make_durable.new.self.pool c.args.self.now.log c.make_durable.new.self.log d in
+    does-not g.S.LogStore.reads g.S.LogStore.writes g.S.LogStore.syncs g.P.Port.read_gives g.P.Port.write_gives g.P.Port.sync_gives (head_of c.args.self.now.log.size (g.P.Port.geometry_of c.args.self.now.pool.port) c.args.table.now) cut file start calls log_calls commits records c.args.self.now.pool c.save_pages.new.self.pool c.args.self.now.log c.save_pages.new.self.log c.args.spare.now c.args.spare.now other before c.from_residual-in_err-save_pages.result c.from_residual-in_err-save_pages.ensures.0
+    (λ why. stopped (table-next g.S.LogStore.reads g.S.LogStore.writes g.S.LogStore.syncs g.P.Port.read_gives g.P.Port.write_gives g.P.Port.sync_gives (head_of c.args.self.now.log.size (g.P.Port.geometry_of c.args.self.now.pool.port) c.args.table.now) cut file start c.args.self.now.pool c.make_durable.new.self.pool c.save_pages.new.self.pool c.args.self.now.log c.make_durable.new.self.log c.save_pages.new.self.log calls log_calls _ (λ after n left. (after ≡ commits) × (left ≡ [])) d commits (1 + length commits) (sym d.is_so.0) (sym d.is_so.2)
+    (c.in_err-save_pages.ensures.goes (head_of c.args.self.now.log.size (g.P.Port.geometry_of c.args.self.now.pool.port) c.args.table.now) cut file start (1 + length commits) d.synced ((pages_in d.steps) ++ calls) ((log_in d.steps) ++ log_calls) commits [] is_durable)) refl))
 
 pub returns-in_err-begin-clause-goes : goal.returns-in_err-begin-clause-goes
 returns-in_err-begin-clause-goes g c = λ cut file other start records synced calls log_calls before commits is well long size.
     (let d = c.in_ok-make_durable.ensures.goes (head_of c.args.self.now.log.size (g.P.Port.geometry_of c.args.self.now.pool.port) c.args.table.now) cut file start records synced calls log_calls commits [] is in
-    let is_durable = durable-is g.S.Store.reads g.S.Store.writes g.S.Store.syncs g.P.Port.read_gives g.P.Port.write_gives g.P.Port.sync_gives (head_of c.args.self.now.log.size (g.P.Port.geometry_of c.args.self.now.pool.port) c.args.table.now) cut file start calls log_calls commits c.args.self.now.pool c.make_durable.new.self.pool c.make_durable.new.self.pool c.args.self.now.log c.make_durable.new.self.log d in
-    let h = c.in_ok-save_pages.ensures.saved (head_of c.args.self.now.log.size (g.P.Port.geometry_of c.args.self.now.pool.port) c.args.table.now) cut file start (1 + length commits) d.synced (d.more ++ calls) (d.more_log ++ log_calls) commits [] is_durable c.in_ok-make_durable.ensures.alive in
-    does-not g.S.Store.reads g.S.Store.writes g.S.Store.syncs g.P.Port.read_gives g.P.Port.write_gives g.P.Port.sync_gives (head_of c.args.self.now.log.size (g.P.Port.geometry_of c.args.self.now.pool.port) c.args.table.now) cut file start calls log_calls commits c.args.self.now.pool c.save_pages.new.self.pool c.args.self.now.log c.save_pages.new.self.log c.args.spare.now c.begin.new.self other before c.from_residual-in_err-begin.result c.from_residual-in_err-begin.ensures.0
-    (does-begin g.S.Store.reads g.S.Store.writes g.S.Store.syncs g.P.Port.read_gives g.P.Port.write_gives g.P.Port.sync_gives (head_of c.args.self.now.log.size (g.P.Port.geometry_of c.args.self.now.pool.port) c.args.table.now) cut file start calls log_calls commits c.args.self.now.pool c.save_pages.new.self.pool c.args.self.now.log c.save_pages.new.self.log c.args.spare.now c.begin.new.self other before c.make_durable.new.self.pool c.make_durable.new.self.log d h c.in_ok-make_durable.ensures.alive
+    let is_durable = durable-is g.S.LogStore.reads g.S.LogStore.writes g.S.LogStore.syncs g.P.Port.read_gives g.P.Port.write_gives g.P.Port.sync_gives (head_of c.args.self.now.log.size (g.P.Port.geometry_of c.args.self.now.pool.port) c.args.table.now) cut file start calls log_calls commits c.args.self.now.pool c.make_durable.new.self.pool c.make_durable.new.self.pool c.args.self.now.log c.make_durable.new.self.log d in
+    let h = c.in_ok-save_pages.ensures.saved (head_of c.args.self.now.log.size (g.P.Port.geometry_of c.args.self.now.pool.port) c.args.table.now) cut file start (1 + length commits) d.synced ((pages_in d.steps) ++ calls) ((log_in d.steps) ++ log_calls) commits [] is_durable c.in_ok-make_durable.ensures.alive in
+    does-not g.S.LogStore.reads g.S.LogStore.writes g.S.LogStore.syncs g.P.Port.read_gives g.P.Port.write_gives g.P.Port.sync_gives (head_of c.args.self.now.log.size (g.P.Port.geometry_of c.args.self.now.pool.port) c.args.table.now) cut file start calls log_calls commits records c.args.self.now.pool c.save_pages.new.self.pool c.args.self.now.log c.save_pages.new.self.log c.args.spare.now c.begin.new.self other before c.from_residual-in_err-begin.result c.from_residual-in_err-begin.ensures.0
+    (does-begin g.S.LogStore.reads g.S.LogStore.writes g.S.LogStore.syncs g.P.Port.read_gives g.P.Port.write_gives g.P.Port.sync_gives (head_of c.args.self.now.log.size (g.P.Port.geometry_of c.args.self.now.pool.port) c.args.table.now) cut file start calls log_calls commits records c.args.self.now.pool c.save_pages.new.self.pool c.args.self.now.log c.save_pages.new.self.log c.args.spare.now c.begin.new.self other before c.make_durable.new.self.pool c.make_durable.new.self.log d h c.in_ok-make_durable.ensures.alive c.port-2.result.now c.port-2.ensures
     c.max.result c.deref.result.now (c.max.ensures ∙ ap (λ (l : LogFile g.row.S.Denot). max l.next 1) c.in_ok-save_pages.ensures.log) (c.deref.ensures.value ∙ c.in_ok-head.ensures ∙ ap (λ d. head_of c.args.self.now.log.size d c.args.table.now) (c.geometry.ensures ∙ ap (λ p. g.P.Port.geometry_of p) c.port.ensures)) well long size
-    (begins-log g.S.Store.reads g.S.Store.writes g.S.Store.syncs c.args.spare.now c.begin.new.self c.max.result c.deref.result.now false c.in_err-begin.ensures.begins) c.in_ok-save_pages.ensures.log))
+    (begins-log (g.S.LogStore.reads c.port-2.result.now) (g.S.LogStore.writes c.port-2.result.now) (g.S.LogStore.syncs c.port-2.result.now) c.args.spare.now c.begin.new.self c.max.result c.deref.result.now false c.in_err-begin.ensures.begins) c.in_ok-save_pages.ensures.log))
 
 pub returns-clause-goes : goal.returns-clause-goes
 returns-clause-goes g c = λ cut file other start records synced calls log_calls before commits is well long size.
     (let d = c.in_ok-make_durable.ensures.goes (head_of c.args.self.now.log.size (g.P.Port.geometry_of c.args.self.now.pool.port) c.args.table.now) cut file start records synced calls log_calls commits [] is in
-    let is_durable = durable-is g.S.Store.reads g.S.Store.writes g.S.Store.syncs g.P.Port.read_gives g.P.Port.write_gives g.P.Port.sync_gives (head_of c.args.self.now.log.size (g.P.Port.geometry_of c.args.self.now.pool.port) c.args.table.now) cut file start calls log_calls commits c.args.self.now.pool c.make_durable.new.self.pool c.make_durable.new.self.pool c.args.self.now.log c.make_durable.new.self.log d in
-    let h = c.in_ok-save_pages.ensures.saved (head_of c.args.self.now.log.size (g.P.Port.geometry_of c.args.self.now.pool.port) c.args.table.now) cut file start (1 + length commits) d.synced (d.more ++ calls) (d.more_log ++ log_calls) commits [] is_durable c.in_ok-make_durable.ensures.alive in
-    does-move g.S.Store.reads g.S.Store.writes g.S.Store.syncs g.P.Port.read_gives g.P.Port.write_gives g.P.Port.sync_gives (head_of c.args.self.now.log.size (g.P.Port.geometry_of c.args.self.now.pool.port) c.args.table.now) cut file start calls log_calls commits c.args.self.now.pool c.save_pages.new.self.pool c.args.self.now.log c.swap.new.x c.args.spare.now c.swap.new.y other before c.make_durable.new.self.pool c.make_durable.new.self.log d h c.in_ok-make_durable.ensures.alive
+    let is_durable = durable-is g.S.LogStore.reads g.S.LogStore.writes g.S.LogStore.syncs g.P.Port.read_gives g.P.Port.write_gives g.P.Port.sync_gives (head_of c.args.self.now.log.size (g.P.Port.geometry_of c.args.self.now.pool.port) c.args.table.now) cut file start calls log_calls commits c.args.self.now.pool c.make_durable.new.self.pool c.make_durable.new.self.pool c.args.self.now.log c.make_durable.new.self.log d in
+    let h = c.in_ok-save_pages.ensures.saved (head_of c.args.self.now.log.size (g.P.Port.geometry_of c.args.self.now.pool.port) c.args.table.now) cut file start (1 + length commits) d.synced ((pages_in d.steps) ++ calls) ((log_in d.steps) ++ log_calls) commits [] is_durable c.in_ok-make_durable.ensures.alive in
+    does-move g.S.LogStore.reads g.S.LogStore.writes g.S.LogStore.syncs g.P.Port.read_gives g.P.Port.write_gives g.P.Port.sync_gives (head_of c.args.self.now.log.size (g.P.Port.geometry_of c.args.self.now.pool.port) c.args.table.now) cut file start calls log_calls commits records c.args.self.now.pool c.save_pages.new.self.pool c.args.self.now.log c.swap.new.x c.args.spare.now c.swap.new.y other before c.make_durable.new.self.pool c.make_durable.new.self.log d h c.in_ok-make_durable.ensures.alive c.port-2.result.now c.port-2.ensures
     c.max.result c.deref.result.now (c.max.ensures ∙ ap (λ (l : LogFile g.row.S.Denot). max l.next 1) c.in_ok-save_pages.ensures.log) (c.deref.ensures.value ∙ c.in_ok-head.ensures ∙ ap (λ d. head_of c.args.self.now.log.size d c.args.table.now) (c.geometry.ensures ∙ ap (λ p. g.P.Port.geometry_of p) c.port.ensures)) well long size
-    c.begin.new.self (begins-log g.S.Store.reads g.S.Store.writes g.S.Store.syncs c.args.spare.now c.begin.new.self c.max.result c.deref.result.now true c.in_ok-begin.ensures.begins) c.swap.ensures.x_after (c.swap.ensures.y_after ∙ c.in_ok-save_pages.ensures.log))
+    c.begin.new.self (begins-log (g.S.LogStore.reads c.port-2.result.now) (g.S.LogStore.writes c.port-2.result.now) (g.S.LogStore.syncs c.port-2.result.now) c.args.spare.now c.begin.new.self c.max.result c.deref.result.now true c.in_ok-begin.ensures.begins) c.swap.ensures.x_after (c.swap.ensures.y_after ∙ c.in_ok-save_pages.ensures.log))
 
 pub returns-clause-imaged : goal.returns-clause-imaged
 returns-clause-imaged g c = none-imaged c.fill.new.self.items _ (c.fill.ensures.items (λ y h. h))

@@ -1,3 +1,4 @@
+use Rattle.example_log.specs.Moments.{log_in, pages_in}
 use Rattle.std.proofs.Common.{◌≡◌, ◌+◌, ◌++◌, ◌∷◌, [], ℕ, List, length, map, reverse, false, inl, inr, refl, sym, ap, subst, ◌∙◌}
 use Rattle.std.proofs.Common.{Bool, true}
 use Rattle.bp_trail.specs.Lists.{some}
@@ -15,38 +16,38 @@ use Rattle.example_table.proofs.table.Table.commit.Goals as goal
 
 pub returns-then-self-clause-goes : goal.returns-then-self-clause-goes
 returns-then-self-clause-goes g c = λ table cut file start records synced calls log_calls commits is known.
-    stays-so g.S.Store.reads g.S.Store.writes g.S.Store.syncs g.P.Port.read_gives g.P.Port.write_gives g.P.Port.sync_gives table cut file start calls log_calls synced commits records [] c.args.self.now.pool c.args.self.now.log is _ ((λ e. refl), known)
+    stays-so g.S.LogStore.reads g.S.LogStore.writes g.S.LogStore.syncs g.P.Port.read_gives g.P.Port.write_gives g.P.Port.sync_gives table cut file start calls log_calls synced commits records [] c.args.self.now.pool c.args.self.now.log is _ ((λ e. refl), known)
     (LeavesCommit cut calls commits (start + 1 + length commits) c.args.changes.now c.args.self.now.is_ended (Err (Log Ended)))
     (says-none cut calls commits (start + 1 + length commits) c.args.changes.now c.args.self.now.is_ended (Err (Log Ended)) refl [] commits refl)
 
 pub returns-in_err-check-clause-goes : goal.returns-in_err-check-clause-goes
 returns-in_err-check-clause-goes g c = λ table cut file start records synced calls log_calls commits is known.
-    stays-so g.S.Store.reads g.S.Store.writes g.S.Store.syncs g.P.Port.read_gives g.P.Port.write_gives g.P.Port.sync_gives table cut file start calls log_calls synced commits records [] c.args.self.now.pool c.args.self.now.log is _ ((λ e. refl), known)
+    stays-so g.S.LogStore.reads g.S.LogStore.writes g.S.LogStore.syncs g.P.Port.read_gives g.P.Port.write_gives g.P.Port.sync_gives table cut file start calls log_calls synced commits records [] c.args.self.now.pool c.args.self.now.log is _ ((λ e. refl), known)
     (LeavesCommit cut calls commits (start + 1 + length commits) c.args.changes.now c.args.self.now.is_ended c.from_residual.result)
     (says-none cut calls commits (start + 1 + length commits) c.args.changes.now c.args.self.now.is_ended c.from_residual.result c.from_residual.ensures.0 [] commits refl)
 
 pub returns-in-Err-clause-goes : goal.returns-in-Err-clause-goes
 returns-in-Err-clause-goes g c = λ table cut file start records synced calls log_calls commits is known.
     (let f = c.in-Err.ensures.goes table cut file start records synced calls log_calls commits is known in
-    so-so g.S.Store.reads g.S.Store.writes g.S.Store.syncs g.P.Port.read_gives g.P.Port.write_gives g.P.Port.sync_gives table cut file start calls log_calls c.args.self.now.pool c.whole_changes.new.self.pool c.args.self.now.log c.whole_changes.new.self.log (λ after n left. (after ≡ commits) × (left ≡ [])) _
+    so-so g.S.LogStore.reads g.S.LogStore.writes g.S.LogStore.syncs g.P.Port.read_gives g.P.Port.write_gives g.P.Port.sync_gives table cut file start calls log_calls c.args.self.now.pool c.whole_changes.new.self.pool c.args.self.now.log c.whole_changes.new.self.log (λ after n left. (after ≡ commits) × (left ≡ [])) _
     (λ cs n left p. ((λ e. p.1), imaged-same c.whole_changes.new.self.imaged.items c.args.self.now.imaged.items (reverse (changes_of commits)) (reverse (changes_of cs)) c.in-Err.ensures.kept.0 (ap (λ (x : List (List LogRecord)). reverse (changes_of x)) p.0) known)) f.0
     (LeavesCommit cut calls commits (start + 1 + length commits) c.args.changes.now c.whole_changes.new.self.log.is_ended (Err c.in-Err.fault))
-    (says-none cut calls commits (start + 1 + length commits) c.args.changes.now c.whole_changes.new.self.log.is_ended (Err c.in-Err.fault) refl f.0.more f.0.commits f.0.is_so.0))
+    (says-none cut calls commits (start + 1 + length commits) c.args.changes.now c.whole_changes.new.self.log.is_ended (Err c.in-Err.fault) refl (pages_in f.0.steps) f.0.commits f.0.is_so.0))
 
 pub returns-clause-goes : goal.returns-clause-goes
 returns-clause-goes g c = λ table cut file start records synced calls log_calls commits is known.
     (let f = c.in-Ok.ensures.goes table cut file start records synced calls log_calls commits is known in
     let l = start + 1 + length commits in
     let made = c.deref.result.now in
-    let whole = subst (AreWhole c.args.self.now.pool.core.parameters.size (f.0.more ++ calls) (reverse (changes_of (cut.commits ++ commits))) (reverse (changes_of commits)) c.args.changes.now) (sym c.deref.ensures.value) f.1 in
-    let there = so-is g.S.Store.reads g.S.Store.writes g.S.Store.syncs g.P.Port.read_gives g.P.Port.write_gives g.P.Port.sync_gives table cut file start calls log_calls commits c.args.self.now.pool c.whole_changes.new.self.pool c.args.self.now.log c.whole_changes.new.self.log f.0 in
-    let h = c.commit_whole.ensures.goes table cut file start f.0.durable f.0.synced (f.0.more ++ calls) (f.0.more_log ++ log_calls) commits there (c.in-Ok.ensures.kept.1 ∙ c.if-self.false)
+    let whole = subst (AreWhole c.args.self.now.pool.core.parameters.size ((pages_in f.0.steps) ++ calls) (reverse (changes_of (cut.commits ++ commits))) (reverse (changes_of commits)) c.args.changes.now) (sym c.deref.ensures.value) f.1 in
+    let there = so-is g.S.LogStore.reads g.S.LogStore.writes g.S.LogStore.syncs g.P.Port.read_gives g.P.Port.write_gives g.P.Port.sync_gives table cut file start calls log_calls commits c.args.self.now.pool c.whole_changes.new.self.pool c.args.self.now.log c.whole_changes.new.self.log f.0 in
+    let h = c.commit_whole.ensures.goes table cut file start f.0.durable f.0.synced ((pages_in f.0.steps) ++ calls) ((log_in f.0.steps) ++ log_calls) commits there (c.in-Ok.ensures.kept.1 ∙ c.if-self.false)
     (subst (λ (x : Parameters). FirstsAreFull x.size (reverse made ++ reverse (changes_of commits))) (sym f.0.parameters) whole.full) in
-    let has = commit-makes cut c.args.self.now.pool.core.parameters.size l (f.0.more ++ calls) commits c.args.changes.now made whole in
-    let k = then-so g.S.Store.reads g.S.Store.writes g.S.Store.syncs g.P.Port.read_gives g.P.Port.write_gives g.P.Port.sync_gives table cut file start calls log_calls c.args.self.now.pool c.whole_changes.new.self.pool c.commit_whole.new.self.pool c.args.self.now.log c.whole_changes.new.self.log c.commit_whole.new.self.log _ _ f.0 h
+    let has = commit-makes cut c.args.self.now.pool.core.parameters.size l ((pages_in f.0.steps) ++ calls) commits c.args.changes.now made whole in
+    let k = then-so g.S.LogStore.reads g.S.LogStore.writes g.S.LogStore.syncs g.P.Port.read_gives g.P.Port.write_gives g.P.Port.sync_gives table cut file start calls log_calls c.args.self.now.pool c.whole_changes.new.self.pool c.commit_whole.new.self.pool c.args.self.now.log c.whole_changes.new.self.log c.commit_whole.new.self.log _ _ f.0 commits (sym f.0.is_so.0) h
     (LeavesCommit cut calls commits l c.args.changes.now c.commit_whole.new.self.is_ended c.commit_whole.result)
-    (says-more cut h.more f.0.more calls commits h.commits l c.args.changes.now made c.commit_whole.new.self.is_ended c.commit_whole.result has (h.is_so.0) h.is_so.2 h.is_so.3) in
-    so-so g.S.Store.reads g.S.Store.writes g.S.Store.syncs g.P.Port.read_gives g.P.Port.write_gives g.P.Port.sync_gives table cut file start calls log_calls c.args.self.now.pool c.commit_whole.new.self.pool c.args.self.now.log c.commit_whole.new.self.log _ _
+    (says-more cut (pages_in h.steps) (pages_in f.0.steps) calls commits h.commits l c.args.changes.now made c.commit_whole.new.self.is_ended c.commit_whole.result has (h.is_so.0) h.is_so.2 h.is_so.3) in
+    so-so g.S.LogStore.reads g.S.LogStore.writes g.S.LogStore.syncs g.P.Port.read_gives g.P.Port.write_gives g.P.Port.sync_gives table cut file start calls log_calls c.args.self.now.pool c.commit_whole.new.self.pool c.args.self.now.log c.commit_whole.new.self.log _ _
     (λ cs n left p. (p.1, images c.commit_whole.new.self.imaged.items c.whole_changes.new.self.imaged.items c.args.self.now.imaged.items l made commits cs c.in-Ok.ensures.kept.0 known c.commit_whole.ensures.noted p.0)) k.0
     (LeavesCommit cut calls commits l c.args.changes.now c.commit_whole.new.self.is_ended c.commit_whole.result) k.1)
   where

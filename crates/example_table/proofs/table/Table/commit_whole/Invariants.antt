@@ -18,5 +18,5 @@ invariant-loop-change g l =
     × ((table : List ℕ) (cut : Cut) (file : List ℕ) (start records : ℕ) (synced : Trail) (calls : List DeviceCall) (log_calls : List FileCall) (commits : List (List LogRecord))
     → IsTable table cut file start synced calls log_calls commits records [] l.fn.self.pool l.fn.self.log → l.fn.self.is_ended ≡ false → FirstsAreFull l.fn.self.pool.core.parameters.size (reverse l.changes ++ reverse (changes_of commits))
     → (l.lsn ≡ start + 1 + length commits)
-    × TableGoes g.S.Store.reads g.S.Store.writes g.S.Store.syncs g.P.Port.read_gives g.P.Port.write_gives g.P.Port.sync_gives l.fn.self.pool l.self.pool l.fn.self.log l.self.log table cut file start calls log_calls
+    × TableGoes g.S.LogStore.reads g.S.LogStore.writes g.S.LogStore.syncs g.P.Port.read_gives g.P.Port.write_gives g.P.Port.sync_gives l.fn.self.pool l.self.pool l.fn.self.log l.self.log table cut file start calls log_calls commits records
     (λ after n left. (after ≡ commits ++ map (under l.lsn) l.changes ∷ []) × (left ≡ reverse (map (under l.lsn) (drop l.change-index l.changes)))))

@@ -1,4 +1,5 @@
 -- The changes so far are whole.
+use Rattle.example_log.specs.Moments.{pages_in}
 use Rattle.std.proofs.Common.{◌≡◌, ◌++◌, [], ℕ, List, take, reverse}
 use Rattle.bp_trail.specs.declared.records.LogRecord.{LogRecord}
 use Rattle.bp_trail.specs.Trail.{Trail}
@@ -14,7 +15,7 @@ abbrev pub invariant-loop-change : goal.invariant-loop-change
 invariant-loop-change g l =
     ((table : List ℕ) (cut : Cut) (file : List ℕ) (start records : ℕ) (synced : Trail) (calls : List DeviceCall) (log_calls : List FileCall) (commits : List (List LogRecord))
     → IsTable table cut file start synced calls log_calls commits records [] l.fn.self.pool l.fn.self.log → AreImaged l.fn.self.imaged.items (reverse (changes_of commits))
-    → (t : TableGoes g.S.Store.reads g.S.Store.writes g.S.Store.syncs g.P.Port.read_gives g.P.Port.write_gives g.P.Port.sync_gives l.fn.self.pool l.self.pool l.fn.self.log l.self.log table cut file start calls log_calls
+    → (t : TableGoes g.S.LogStore.reads g.S.LogStore.writes g.S.LogStore.syncs g.P.Port.read_gives g.P.Port.write_gives g.P.Port.sync_gives l.fn.self.pool l.self.pool l.fn.self.log l.self.log table cut file start calls log_calls commits records
     (λ after n left. (after ≡ commits) × (left ≡ [])))
-    × AreWhole l.fn.self.pool.core.parameters.size (t.more ++ calls) (reverse (changes_of (cut.commits ++ commits))) (reverse (changes_of commits)) (take l.change-index l.changes) l.made.items)
+    × AreWhole l.fn.self.pool.core.parameters.size ((pages_in t.steps) ++ calls) (reverse (changes_of (cut.commits ++ commits))) (reverse (changes_of commits)) (take l.change-index l.changes) l.made.items)
     × (l.self.imaged.items ≡ l.fn.self.imaged.items) × (l.self.is_ended ≡ l.fn.self.is_ended)
