@@ -6,3 +6,4 @@ mod Raising
 pub mod Placing
 pub mod Closing
 mod Dealing
+mod Flushing
