@@ -1,10 +1,10 @@
 -- A call that is stopped at any moment.
-use Rattle.std.proofs.Common.{◌≡◌, inl, inr, refl, sym, ap, subst, ◌∙◌, ℕ, ◌+◌, Bool, true, false, List, [], ◌∷◌, ◌++◌, length, reverse, append_assoc, arith}
+use Rattle.std.proofs.Common.{◌≡◌, inl, inr, refl, sym, ap, subst, ◌∙◌, ℕ, zero, suc, ◌+◌, ◌≤◌, Bool, true, false, List, [], ◌∷◌, ◌++◌, length, map, take, drop, reverse, append_assoc, arith}
 use Rattle.std.specs.Prelude.{◌⊎◌}
 use Rattle.bp_trail.specs.declared.records.LogRecord.{LogRecord}
 use Rattle.bp_trail.specs.Parameters.{Parameters}
 use Rattle.bp_trail.specs.Recovery.{redo}
-use Rattle.example_log.specs.Commits.{HasCommits, Kept, changes_of, log_of}
+use Rattle.example_log.specs.Commits.{AreCommits, HasCommits, Kept, changes_of, log_of, payload_of}
 use Rattle.example_log.specs.Disk.{DeviceCall, Honest, MayLeave}
 use Rattle.bp_page.specs.declared.limits.Geometry.{Geometry}
 use Rattle.example_log.specs.Files.{FileCall, FileLeaves, IsSettled, failed, synced as synced_bytes, written as written_bytes}
@@ -12,7 +12,10 @@ use Rattle.example_log.specs.Files.IsSettled.{settled}
 use Rattle.example_log.specs.LogFiles.{Settles}
 use Rattle.example_log.specs.LogFiles.Settles.{nothing as settles_nothing, unwritten, synced as settles_synced}
 use Rattle.example_log.proofs.Moments.{each-last}
-use Rattle.example_log.specs.Lives.{TellsTrue}
+use Rattle.example_log.specs.Frames.{NoFrame, frames}
+use Rattle.example_log.specs.Lives.{AreRecords, LogLife, Reopened, TellsTrue}
+use Rattle.example_log.proofs.Found.{Longest, longest}
+use Rattle.example_log.proofs.Lives.{Remains, life-is, remains}
 use Rattle.example_log.specs.Lives.Reopened.{ended}
 use Rattle.example_log.specs.LogFiles.Wipes.{nothing}
 use Rattle.example_log.specs.Moments.{Step, log_in, pages_in, spare_in}
@@ -27,6 +30,68 @@ use Rattle.example_table.proofs.Checkpoints.{may-be-opened}
 use Rattle.example_table.proofs.Openings.{beginning, each-beginning, found-in, redoing, stood}
 use Rattle.example_table.proofs.Sounding.{all-shut, all-sound, sound}
 use Rattle.example_table.proofs.Tables.{mended}
+
+-- ---- a log is found
+
+records-front : (lsn k : ℕ) (xs : List (List ℕ)) → AreRecords lsn xs → AreRecords lsn (take k xs)
+records-front lsn zero xs f = tt
+records-front lsn (suc k) [] f = tt
+records-front lsn (suc k) (x ∷ xs) f = (f.0, records-front (lsn + 1) k xs f.1)
+
+commits-front : (lsn k : ℕ) (cs : List (List LogRecord)) → AreCommits lsn cs → AreCommits lsn (take k cs)
+commits-front lsn zero cs f = tt
+commits-front lsn (suc k) [] f = tt
+commits-front lsn (suc k) (x ∷ cs) f = (f.0, commits-front (lsn + 1) k cs f.1)
+
+payloads-front : (k : ℕ) (cs : List (List LogRecord)) → take k (map payload_of cs) ≡ map payload_of (take k cs)
+payloads-front zero cs = refl
+payloads-front (suc k) [] = refl
+payloads-front (suc k) (x ∷ cs) = ap (λ (t : List (List ℕ)). payload_of x ∷ t) (payloads-front k cs)
+
+take-front : (k : ℕ) (xs ys : List (List ℕ)) → k ≤ length xs → take k xs ≡ take k (xs ++ ys)
+take-front zero xs ys le = refl
+take-front (suc k) [] ys le = absurd (omega arith)
+take-front (suc k) (x ∷ xs) ys le = ap (λ (t : List (List ℕ)). x ∷ t) (take-front k xs ys (omega arith))
+
+pub log-found : (table file bytes other : List ℕ) (start : ℕ) (alive : Bool) (calls later : List FileCall) (commits : List (List LogRecord)) (kept : List (List ℕ)) (durable n : ℕ) → LogLife file start alive calls (log_of table commits) durable → AreCommits (start + 1) commits
+    → Reopened file start calls (log_of table commits) durable later kept n → 1 ≤ durable → FileLeaves file later bytes → TellsTrue start (synced_bytes file later) (written_bytes file later) bytes → BeginsBefore start other
+    → (found last : ℕ) × (changes : List LogRecord) × FindsLog table bytes other found last changes
+log-found table file bytes other start alive calls later commits kept durable n life are reopened named leaves tells below = go l.count refl l.most l.enough l.stands l.ends
+  where
+    r : Remains file start (log_of table commits) durable later kept n
+    r = remains file start (log_of table commits) durable alive calls (life-is file start alive calls (log_of table commits) durable life) later kept n reopened
+
+    l : Longest file start false later kept n bytes r.is leaves tells
+    l = longest file start false later kept n bytes r.is leaves tells
+
+    go : (k : ℕ) → k ≡ l.count → k ≤ length kept → n ≤ k → bytes ≡ frames start (take k kept) ++ drop (length (frames start (take k kept))) bytes → NoFrame (drop (length (frames start (take k kept))) bytes)
+        → (found last : ℕ) × (changes : List LogRecord) × FindsLog table bytes other found last changes
+    go zero same most enough stands ends = (let d = r.durably in absurd (omega arith))
+    go (suc k) same most enough stands ends =
+        let cs = take k commits in
+        let read : take (suc k) kept ≡ log_of table cs =
+        take-front (suc k) kept r.lost most ∙ ap (take (suc k)) (sym r.stands) ∙ ap (λ (t : List (List ℕ)). table ∷ t) (payloads-front k commits) in (
+          start,
+          start + length cs,
+          changes_of cs,
+          inl (record {
+            has = record {
+              commits = cs;
+              is_read = record {
+                rest = drop (length (frames start (take (suc k) kept))) bytes;
+                stands = stands ∙ ap (λ (t : List (List ℕ)). frames start t ++ drop (length (frames start (take (suc k) kept))) bytes) read;
+                records = subst (AreRecords start) read (records-front start (suc k) kept r.is.records);
+                ends = ends;
+              };
+              are = commits-front (start + 1) k commits are;
+              last_is = refl;
+              changes_are = refl;
+            };
+            other = below;
+          }),
+        )
+
+-- ---- and mends what a crash left
 
 module _ (c : Parameters) (tears : Bool) (first left : ℕ → List ℕ) (table file bytes other : List ℕ) (cut : Cut) (start : ℕ) (calls : List DeviceCall) (log_calls : List FileCall) (commits after : List (List LogRecord)) (records found last : ℕ) (changes : List LogRecord)
     (s : Stands c table cut file start calls log_calls commits after records) (honestly : Honest tears first calls) (sized : (p : ℕ) → length (first p) ≡ c.size) (file_left : FileLeaves file log_calls bytes) (tells : TellsTrue start (synced_bytes file log_calls) (written_bytes file log_calls) bytes)
@@ -97,3 +162,7 @@ opening-mended tears device wanted seen first left table newer older newer_file 
     (record { first = newer_file; calls = log_in so_far ++ newer_before; long = size; settled = settled-all (again_of is) (log_in so_far) true settles refl newer_file newer_before newer_long; leaves = newer_left }) m k
     (pages_in so_far) within honest recovers leaves file left_older before (spare_in so_far ++ before) long below_synced below_written
     (each-last (λ calls. Beginning file (last + 1) table before (calls ++ before)) (spare_in so_far) (each-beginning file (last + 1) table before well long (spare_in so_far) by)) older_left tells)
+
+pub stands-found : (c : Parameters) (table file bytes other : List ℕ) (cut : Cut) (start : ℕ) (calls : List DeviceCall) (log_calls : List FileCall) (commits after : List (List LogRecord)) (records : ℕ) → Stands c table cut file start calls log_calls commits after records → FileLeaves file log_calls bytes
+    → TellsTrue start (synced_bytes file log_calls) (written_bytes file log_calls) bytes → BeginsBefore start other → (found last : ℕ) × (changes : List LogRecord) × FindsLog table bytes other found last changes
+stands-found c table file bytes other cut start calls log_calls commits after records s leaves tells below = log-found table file bytes other start s.alive log_calls log_calls s.now (log_of table s.now) s.synced_records s.synced_records s.ran.log s.ran.are ended s.ran.named leaves tells below

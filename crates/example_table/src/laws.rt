@@ -20,10 +20,10 @@ ghost use Rattle.example_table.specs.Tables.{Cut, Stands, TableRan};
 /// Stop a table that ran so at any moment of its device since its log was begun, by a loss of power or by the end of its process
 /// alone, and openings after it at any moment before they redo a page. What is found of its log, whatever the other file
 /// has from before, are then the first commits, each whole, and no fewer than were synced; and whatever the device has may
-/// be redone, to what all commits before that log, and these, make of the first images. It does nothing: its contract is
-/// the law.
+/// be redone, to what all commits before that log, and these, make of the first images. A log is found (`found`). It does
+/// nothing: its contract is the law.
 pub fn a_crash_is_mended()
-    ensures { (c : Parameters) (tears : Bool) (first left : ℕ → List ℕ)
+    ensures mended { (c : Parameters) (tears : Bool) (first left : ℕ → List ℕ)
         (table file bytes other : List ℕ) (cut : Cut) (start : ℕ) (alive : Bool)
         (past synced : Trail)
         (calls later so_far : List DeviceCall) (log_calls opening_calls : List FileCall)
@@ -40,15 +40,25 @@ pub fn a_crash_is_mended()
         FindsLog table bytes other found last changes →
         Kept start durable commits found last changes × MayBeRedone tears c.size 0 (reverse changes)
         (λ p. redo 0 (reverse (changes_of cut.commits ++ changes)) p (first p)) left }
+    ensures found { (c : Parameters) (table file bytes other : List ℕ) (cut : Cut) (start : ℕ)
+        (alive : Bool) (past synced : Trail) (calls : List DeviceCall)
+        (log_calls opening_calls : List FileCall) (commits : List (List Record))
+        (kept : List (List ℕ)) (durable n : ℕ) (pending : List Record) →
+        TableRan c table cut file start alive past synced calls log_calls commits durable pending →
+        Reopened file start log_calls (log_of table commits) durable opening_calls kept n →
+        FileLeaves file opening_calls bytes → TellsTrue start (synced_bytes file opening_calls)
+        (written_bytes file opening_calls) bytes →
+        BeginsBefore start other → (found last : ℕ) × (changes : List Record)
+        × FindsLog table bytes other found last changes }
 {}
 
 /// Stop a call of a table at any moment, also between its calls of the device and of the log, by a loss of power. `steps`
 /// are these calls as `commit`, `make_durable` and the fixes tell them, in the order in which they were made, and `so_far`
 /// those until then. What is found of the log are then the first of the commits that the call leaves, each whole, and no
-/// fewer than were synced when it came; and whatever the device has may be redone, to what these make. `other` is what the
-/// other file has. It does nothing: its contract is the law.
+/// fewer than were synced when it came; and whatever the device has may be redone, to what these make. A log is found
+/// (`found`). `other` is what the other file has. It does nothing: its contract is the law.
 pub fn a_call_may_be_stopped()
-    ensures { (c : Parameters) (tears : Bool) (first left : ℕ → List ℕ)
+    ensures mended { (c : Parameters) (tears : Bool) (first left : ℕ → List ℕ)
         (table file bytes other : List ℕ) (cut : Cut) (start records found last : ℕ)
         (calls : List DeviceCall) (log_calls : List FileCall) (commits after : List (List Record))
         (changes : List Record) (steps later so_far : List Step) →
@@ -63,6 +73,16 @@ pub fn a_call_may_be_stopped()
         FindsLog table bytes other found last changes →
         Kept start records after found last changes × MayBeRedone tears c.size 0 (reverse changes)
         (λ p. redo 0 (reverse (changes_of cut.commits ++ changes)) p (first p)) left }
+    ensures found { (c : Parameters) (table file bytes other : List ℕ) (cut : Cut)
+        (start records : ℕ) (calls : List DeviceCall) (log_calls : List FileCall)
+        (commits after : List (List Record)) (steps later so_far : List Step) →
+        AtEach (λ made. Stands c table cut file start (pages_in made ++ calls)
+        (log_in made ++ log_calls) commits after records) steps → steps ≡ later ++ so_far →
+        FileLeaves file (log_in so_far ++ log_calls) bytes →
+        TellsTrue start (synced_bytes file (log_in so_far ++ log_calls))
+        (written_bytes file (log_in so_far ++ log_calls)) bytes →
+        BeginsBefore start other → (found last : ℕ) × (changes : List Record)
+        × FindsLog table bytes other found last changes }
 {}
 
 /// Stop a checkpoint at any moment, by a loss of power, also between its calls of the device and of both files: what is
