@@ -136,6 +136,21 @@ pub fn a_checkpoint_may_be_stopped()
         (λ p. redo 0 (reverse (changes_of cut.commits ++ changes)) p (first p)) left)
         ⊎ MayBeRedone tears c.size 0 (reverse changes)
         (λ p. redo 0 (reverse (changes_of (cut.commits ++ commits))) p (first p)) left }
+    ensures found { (c : Parameters) (table file other_file bytes other : List ℕ) (cut : Cut)
+        (start records : ℕ) (calls : List DeviceCall) (log_calls before : List FileCall)
+        (commits : List (List Record)) (steps later so_far : List Step) →
+        AtEach (IsMoving c table cut file start calls log_calls commits records other_file before)
+        steps → steps ≡ later ++ so_far →
+        FileLeaves file (log_in so_far ++ log_calls) bytes →
+        TellsTrue start (synced_bytes file (log_in so_far ++ log_calls))
+        (written_bytes file (log_in so_far ++ log_calls)) bytes →
+        length (written_bytes other_file before) ≡ length other_file →
+        BeginsBefore start (synced_bytes other_file before) →
+        BeginsBefore start (written_bytes other_file before) →
+        FileLeaves other_file (spare_in so_far ++ before) other →
+        TellsTrue (start + 1 + length commits) (synced_bytes other_file (spare_in so_far ++ before))
+        (written_bytes other_file (spare_in so_far ++ before)) other →
+        (found last : ℕ) × (changes : List Record) × FindsLog table bytes other found last changes }
     ensures follows { (file : List ℕ) (start to : ℕ) (alive : Bool) (calls later : List FileCall)
         (log kept : List (List ℕ)) (durable n : ℕ) → LogLife file start alive calls log durable →
         Reopened file start calls log durable later kept n → start < to →
@@ -183,6 +198,23 @@ pub fn an_opening_may_be_stopped()
         (written_bytes file (spare_in so_far ++ before)) left_older →
         ((pages_in so_far ≡ []) × (spare_in so_far ≡ []))
         ⊎ MayBeOpened tears device.size table left_newer left_older wanted left }
+    ensures found { (tears : Bool) (device : Geometry)
+        (table newer older newer_file file left_newer left_older : List ℕ) (begun last : ℕ)
+        (changes : List Record) (newer_before before : List FileCall)
+        (steps later so_far : List Step) →
+        (is : IsNewer table newer older begun last changes) →
+        AtEach (IsOpening device (again_of is) table changes (last + 1) (length file)) steps →
+        steps ≡ later ++ so_far → length newer_file ≡ length (again_of is) →
+        length (written_bytes newer_file newer_before) ≡ length (again_of is) →
+        FileLeaves newer_file (log_in so_far ++ newer_before) left_newer →
+        failed before ≡ false → length (written_bytes file before) ≡ length file →
+        BeginsBefore begun (synced_bytes file before) →
+        BeginsBefore begun (written_bytes file before) →
+        FileLeaves file (spare_in so_far ++ before) left_older →
+        TellsTrue (last + 1) (synced_bytes file (spare_in so_far ++ before))
+        (written_bytes file (spare_in so_far ++ before)) left_older →
+        ((pages_in so_far ≡ []) × (spare_in so_far ≡ []))
+        ⊎ ((found l : ℕ) × (cs : List Record) × FindsLog table left_newer left_older found l cs) }
     ensures redoing { (tears : Bool) (pages size : ℕ) (wanted seen first left : ℕ → List ℕ)
         (table newer older left_newer left_older : List ℕ) (begun last : ℕ) (changes : List Record)
         (done : Bool) (calls later so_far : List DeviceCall) →
