@@ -9,7 +9,7 @@ use Rattle.example_log.specs.Disk.{DeviceCall, Honest, MayLeave}
 use Rattle.bp_page.specs.declared.limits.Geometry.{Geometry}
 use Rattle.example_log.specs.Files.{FileCall, FileLeaves, IsSettled, SettledLeaves, failed, synced as synced_bytes, written as written_bytes}
 use Rattle.example_log.specs.Files.IsSettled.{settled}
-use Rattle.example_log.specs.LogFiles.{Settles}
+use Rattle.example_log.specs.LogFiles.{Settles, wiped_by}
 use Rattle.example_log.specs.LogFiles.Settles.{nothing as settles_nothing, unwritten, synced as settles_synced}
 use Rattle.example_log.proofs.Moments.{each-last}
 use Rattle.example_log.specs.Frames.{NoFrame, frames}
@@ -27,7 +27,7 @@ use Rattle.example_table.specs.Opening.{AreWithin, Beginning, BeginsBefore, Find
 use Rattle.example_table.specs.Opening.IsOpening.{settling, redoing as redoing_it, beginning as beginning_it}
 use Rattle.example_table.specs.Tables.{Cut, Stands}
 use Rattle.example_table.proofs.Checkpoints.{may-be-opened, old-left}
-use Rattle.example_table.proofs.Openings.{beginning, begins-before, each-beginning, found-in, newer-has, redoing, stood}
+use Rattle.example_table.proofs.Openings.{beginning, begins-before, each-beginning, found-in, is-emptied, newer-has, redoing, stood}
 use Rattle.example_table.specs.Opening.Beginning.{wiping as wiping_it, begun as was_begun}
 use Rattle.example_table.proofs.Sounding.{all-shut, all-sound, sound}
 use Rattle.example_table.proofs.Tables.{mended}
@@ -270,3 +270,11 @@ opening-found tears device table newer older newer_file file left_newer left_old
     (newer-has tears device.pages device.size (λ p. []) (λ p. []) (λ p. []) (λ p. []) table newer older left_newer begun last changes is settled_now)
     (begins-before tears device.pages device.size (λ p. []) (λ p. []) (λ p. []) (λ p. []) table newer older left_newer begun last changes is settled_now)
     long below_synced below_written (each-last (λ calls. Beginning file (last + 1) table before (calls ++ before)) (spare_in so_far) (each-beginning file (last + 1) table before well long (spare_in so_far) by)) older_left tells)
+
+none-before : (bytes : List ℕ) → NoFrame bytes → (to : ℕ) → BeginsBefore to bytes
+none-before bytes none to = λ lsn payload rest fit e. absurd (none lsn payload rest fit e)
+
+pub wiped-all : (file : List ℕ) (before : List FileCall) → failed before ≡ false → length (written_bytes file before) ≡ length file
+    → (failed (wiped_by (length file) ++ before) ≡ false) × (length (written_bytes file (wiped_by (length file) ++ before)) ≡ length file) × ((to : ℕ) → BeginsBefore to (synced_bytes file (wiped_by (length file) ++ before))) × ((to : ℕ) → BeginsBefore to (written_bytes file (wiped_by (length file) ++ before)))
+    × ((to : ℕ) (left : List ℕ) → FileLeaves file (wiped_by (length file) ++ before) left → BeginsBefore to left)
+wiped-all file before well long = (let e = is-emptied file before long well in (e.well, e.long, none-before _ e.durably, none-before _ e.last, λ to left leaves. none-before left (e.left left leaves) to))

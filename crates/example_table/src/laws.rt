@@ -10,7 +10,7 @@ ghost use Rattle.example_log.specs.Commits.{Kept, changes_of, log_of};
 ghost use Rattle.example_log.specs.Disk.{DeviceCall, Honest, MayBring, MayLeave};
 ghost use Rattle.example_log.specs.Files.{FileCall, FileLeaves, IsSettled, SettledLeaves, failed, synced as synced_bytes, written as written_bytes};
 ghost use Rattle.example_log.specs.Lives.{LogLife, Reopened, TellsTrue};
-ghost use Rattle.example_log.specs.LogFiles.{Wipes};
+ghost use Rattle.example_log.specs.LogFiles.{Wipes, wiped_by};
 ghost use Rattle.example_log.specs.Moments.{AtEach, Step, log_in, pages_in, spare_in};
 ghost use Rattle.example_log.specs.Promise.{MayBeRedone, Recovers};
 ghost use Rattle.example_table.specs.Checkpoints.{IsMoving};
@@ -90,8 +90,9 @@ pub fn a_call_may_be_stopped()
 /// what these make; or redo makes what all commits make (`within`). `steps` are its calls as it tells them.
 ///
 /// Once its pages are synced, whatever of the next log is begun, that is what all commits make of the first images, also
-/// where an opening comes, and ends, while it makes what it read durable (`moving`). When the next log has been begun, and also when a second checkpoint comes, the file of the log before it has
-/// none that begins as late, whatever a crash leaves of it (`follows`). It does nothing: its contract is the law.
+/// where an opening comes, and ends, while it makes what it read durable (`moving`). A log is found at each moment
+/// (`found`). When the next log has been begun, and also when a second checkpoint comes, the file of the log before it has
+/// none that begins as late, whatever a crash leaves of it (`follows`); nor has it any once it is wiped (`wiped`). It does nothing: its contract is the law.
 pub fn a_checkpoint_may_be_stopped()
     ensures moving { (c : Parameters) (tears : Bool) (first left : ℕ → List ℕ)
         (table file other_file bytes other : List ℕ) (cut : Cut) (start : ℕ) (alive : Bool)
@@ -158,6 +159,14 @@ pub fn a_checkpoint_may_be_stopped()
         × BeginsBefore to (synced_bytes file later) × BeginsBefore to (written_bytes file later)
         × ((left : List ℕ) → FileLeaves file later left → TellsTrue start (synced_bytes file later)
         (written_bytes file later) left → BeginsBefore to left) }
+    ensures wiped { (file : List ℕ) (before : List FileCall) → failed before ≡ false →
+        length (written_bytes file before) ≡ length file →
+        (failed (wiped_by (length file) ++ before) ≡ false)
+        × (length (written_bytes file (wiped_by (length file) ++ before)) ≡ length file)
+        × ((to : ℕ) → BeginsBefore to (synced_bytes file (wiped_by (length file) ++ before)))
+        × ((to : ℕ) → BeginsBefore to (written_bytes file (wiped_by (length file) ++ before)))
+        × ((to : ℕ) (left : List ℕ) → FileLeaves file (wiped_by (length file) ++ before) left →
+        BeginsBefore to left) }
     ensures good { (file : List ℕ) (start : ℕ) (calls : List FileCall) (log : List (List ℕ))
         (durable : ℕ) → LogLife file start true calls log durable → failed calls ≡ false }
 {}

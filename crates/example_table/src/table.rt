@@ -396,7 +396,8 @@ impl<S: LogStore<P>, P: Port> Table<S, P> {
     /// Begins the log anew in the other file, so that the commits until now take no room in it. Before that it makes each
     /// of them durable, and each page. A crash leaves all durable commits, whenever it comes. `table` is the name by which
     /// the table was opened. `spare` is the file that has not the log: after Ok it is the one that had it, for the next
-    /// checkpoint.
+    /// checkpoint. Best wipe it then (`LogFile::wipe`): while it has a log, one lost byte in the head of the one that
+    /// goes on takes `open` back to it, and without a word.
     ///
     /// `Ended`, `OtherSize` where the files of the log have two sizes, and `Memory` before that, change nothing. `Device`
     /// where a file of the log fails, `WriteFailed` where the device does, `Full` where no LSN is left or the file has no
