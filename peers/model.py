@@ -6,6 +6,8 @@ has one right answer. In order `free` it is "apart" where clients share no page 
 the same but for times and the order of lines. Else it is "mixed".
 """
 import collections
+import functools
+import itertools
 import random
 import re
 
@@ -18,8 +20,7 @@ OFTEN = {"fix": 9, "unfix": 8, "read": 3, "write": 8, "flush": 3, "discard": 3, 
 ODD = ["", "0", "00", "7", "63", "64", "-1", "+1", " 1", "1 ", "1e0", "0x1", "1" * 20, "0" * 18 + "1", "0" * 19 + "1"]
 ODD += [str(LARGEST), str(LARGEST + 1), "f", "fff", "aB", "fg", "FIX", "fix ", *USED, "log", "log", "log", "a,b", 'a"b']
 ODD += ['"', "\n", "\u0661", "\u00e9", "0" * 20]
-# So many bytes of a page each of four clients has for itself.
-OWN = 4
+OWN = 4  # So many bytes of a page each of four clients has for itself.
 # `how` is one of the words above. `file` is what the page file has, or none where pages are in memory. No page is
 # written out at or past the byte `limit`, as where the disk is full.
 Case = collections.namedtuple("Case", "its how totals records text file limit")
@@ -32,6 +33,7 @@ class Refused(Exception):
     """A call or a trace was refused with this number."""
 
 
+@functools.lru_cache(10_000)
 def number_in(text):
     """The number that a field says, or none."""
     return int(text) if re.fullmatch("[0-9]{1,19}", text) and int(text) <= LARGEST else None
@@ -54,7 +56,7 @@ def fault_of(record, its):
     numbers = [number_in(field) for at, field in enumerate(fields[:used]) if at != 2]
     if None in numbers:
         return 43
-    if not re.fullmatch("([0-9a-fA-F]{2})*", fields[2]):
+    if fields[2] and not re.fullmatch("([0-9a-fA-F]{2})*", fields[2]):
         return 44
     has_page = op not in ("tick", "log", "purge")
     is_past = has_page and numbers[0] >= its.pages or op == "write" and numbers[1] + len(fields[2]) // 2 > its.size
@@ -203,8 +205,7 @@ def answer(case):
             return f"trace row {number} refused {fault}\n", [], 2, case.file
     pool = Pool(case.its, case.file, case.limit)
     pool.play(case.records)
-    lines = [] if case.totals else pool.lines
-    lines = lines + [f"{name} {count}" for name, count in pool.totals.items()]
+    lines = ([] if case.totals else pool.lines) + [f"{name} {count}" for name, count in pool.totals.items()]
     lines += [f"row {number} refused {why}" for number, why in pool.refused]
     return "", lines, int(bool(pool.refused)), case.file and bytes(pool.file)
 
@@ -237,10 +238,10 @@ def make(seed):
 
 def rows(it, its, how, clients):
     """Rows of a trace, without empty fields at the end. In mixed ones each client writes bytes of its own alone."""
-    often = [count * it.choice((0.2, 1, 1, 3)) for count in OFTEN.values()]
+    ops, often = list(OFTEN), list(itertools.accumulate(count * it.choice((0.2, 1, 1, 3)) for count in OFTEN.values()))
     held, wrote, top, many = [], collections.Counter(), 0, it.choice((0, 0, 1, 2, 9))
     for _ in range(it.choice((3, 60, 200, 240))):
-        [op] = it.choices(list(OFTEN), often)
+        [op] = it.choices(ops, cum_weights=often)
         op = "unfix" if len(held) > many else op
         client, page = it.randrange(clients), min(it.randrange(its.pages), it.randrange(its.pages))
         page = it.choice(range(client, its.pages, clients)) if how == "apart" else page
@@ -280,10 +281,13 @@ def spoil(it, records):
 def text_of(it, records):
     """The records as CSV, with quotes where they must be and elsewhere, any line end, and blank lines."""
     end, text = it.choice(("\n", "\r\n", "\r")), it.choice(("", "", "\ufeff"))
+    has_to, ends = re.compile('[",\r\n]').search, (1,) * 19 + (2,)
     for record in records:
-        quotes = [record == [""] or it.random() < 0.03 or re.search('[",\r\n]', field) for field in record]
-        fields = ['"' + field.replace('"', '""') + '"' if quote else field for field, quote in zip(record, quotes)]
-        text += ",".join(fields) + end * it.choice((1,) * 19 + (2,))
+        quotes = [record == [""] or it.random() < 0.03 for _ in record]
+        if True in quotes or has_to("".join(record)):
+            record = ['"' + field.replace('"', '""') + '"' if quote or has_to(field) else field
+                      for field, quote in zip(record, quotes)]
+        text += ",".join(record) + end * it.choice(ends)
     return (text if it.random() < 0.7 else text.removesuffix(end)).encode()
 
 

@@ -7,7 +7,7 @@ use lib.ListN.{get_elem?}
 use Rattle.atomic_table.specs.Table.{Me, step, keeps, Allows, Splits, Joins, Final, Seen}
 use Rattle.atomic_table.proofs.Lists.{at_set, at_snoc}
 use Rattle.bp_mark.specs.declared.views.View.{View}
-use Rattle.bp_mark.specs.Views.{reader, raised, looked, joined, Raises, Looks}
+use Rattle.bp_mark.specs.Views.{reader, raised, looked, joined, Raises, Looks, Bounds}
 use Rattle.bp_mark.specs.Rule.{Fits, AllFit, MarkRule}
 
 -- One view changes to one that fits, and the others fit.
@@ -82,6 +82,27 @@ look_kept slots id me s rule homes there small =
       },
       (refl, omega (arith, found, mine.seen)),
     )
+
+-- Nothing changes but that the seat forgets what it has seen, and its frontier is the word.
+pub bound_kept : (slots id : ℕ) (me : Me ℕ View) → Allows MarkRule slots id me 0 (λ n. n) (Bounds (step slots 0 0 0 none) me)
+bound_kept slots id me s rule homes there small =
+    let found : slice_index s.words 0 ≡ rule.word = ap (λ words. slice_index words 0) rule.one_word in
+    let mine = rule.views id me.0 there in
+    let forgets : View = record { frontier = me.0.frontier; seen = 0 } in (
+      forgets,
+      keeps,
+      tt,
+      record {
+        word = rule.word;
+        one_word = ap (λ words. set words 0 (slice_index words 0)) rule.one_word;
+        views = AllFit-set rule.word s.views id forgets (λ seat u _ at_seat. rule.views seat u at_seat) (record { seen = omega arith; frontier = mine.frontier });
+      },
+      (refl, omega (arith, found, mine.seen), is_found (slice_index s.words 0) rule.word me.0.frontier found mine.frontier),
+    )
+  where
+    is_found : (at word : ℕ) (frontier : Option ℕ) → at ≡ word → IfSome frontier (λ f. (id ≡ 0) × (f ≡ word)) → IfSome frontier (λ f. f ≡ at)
+    is_found at word (Some f) same is = is.1 ∙ sym same
+    is_found at word None same is = tt
 
 -- A new reader has seen no more than the seat that gives it.
 pub split_kept : (id seen : ℕ) (v : View) → seen ≤ v.seen → Splits MarkRule id v v (reader seen)

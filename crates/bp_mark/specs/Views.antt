@@ -1,5 +1,5 @@
 -- What a seat of the durable mark knows, and how each kind of step changes it.
-use Rattle.std.specs.Prelude.{◌≡◌, ℕ, ◌≤◌, max, Some, None}
+use Rattle.std.specs.Prelude.{◌≡◌, ℕ, ◌≤◌, max, IfSome, Some, None}
 use Rattle.std.specs.Option.{option_map}
 use Rattle.atomic_table.specs.Table.{Me, Step}
 use Rattle.bp_mark.specs.declared.views.View.{View}
@@ -33,3 +33,10 @@ Raises step before found after = after ≡ (raised step.first before.0, before.1
 abbrev pub Looks : Step ℕ → Me ℕ View → ℕ → Me ℕ View → Type 0
 Looks step before found after =
     (after ≡ (looked found before.0, before.1)) × (before.0.seen ≤ found)
+
+-- what a look of the log end tells: its frontier is found, and that is no less than what it took in of
+-- readers, which it then forgets
+abbrev pub Bounds : Step ℕ → Me ℕ View → ℕ → Me ℕ View → Type 0
+Bounds step before found after =
+    (after ≡ (record { frontier = before.0.frontier; seen = 0 }, before.1))
+    × (before.0.seen ≤ found) × IfSome before.0.frontier (λ frontier. frontier ≡ found)

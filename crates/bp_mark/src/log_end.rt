@@ -1,8 +1,9 @@
 //! `LogEnd`: the seat of the log writer, which alone raises the mark.
-ghost use Rattle.std.specs.Prelude.{◌≡◌, max};
+ghost use Rattle.std.specs.Prelude.{◌≡◌, ◌≤◌, max};
 
 use crate::marks::Mark;
-use crate::views::{Raise, WordSeat};
+use crate::readers::Reader;
+use crate::views::{Bound, Last, Raise, SplitReader, WordSeat};
 use bp_page::Lsn;
 use std::marker::Model;
 
@@ -45,5 +46,22 @@ impl LogEnd {
             .shared
             .fetch_max::<Raise>(&mut self.seat, 0, lsn.number());
         self.frontier = self.frontier.max(lsn);
+    }
+
+    /// Bounds what a reader of the mark has seen: it is no more than the frontier. Nothing changes.
+    #[tactic(auto, using(crate::proofs::KeepsRule::split_kept, crate::proofs::KeepsRule::join_kept))]
+    pub fn bounds(&mut self, mark: &Mark, reader: &mut Reader)
+        requires log_end { self.old.mark ≡ mark.now }
+        requires reader { reader.old.mark ≡ mark.now }
+        ensures same { self.new ≡ self.old }
+        ensures reader { reader.new ≡ reader.old }
+        ensures seen { reader.new.seen ≤ self.new.frontier }
+    {
+        let seen = mark
+            .table
+            .shared
+            .split_seat::<SplitReader>(&mut reader.seat);
+        mark.table.shared.join_seat::<Last>(&mut self.seat, seen);
+        let _ = mark.table.shared.load::<Bound>(&mut self.seat, 0);
     }
 }

@@ -1,4 +1,4 @@
-//! What each seat knows of the mark, the rule that holds between any two steps, and the six kinds of step.
+//! What each seat knows of the mark, the rule that holds between any two steps, and the seven kinds of step.
 use atomic_table::{Join, Play, Seat, Split, Table, TableRule};
 use bp_page::Lsn;
 use std::alloc::Global;
@@ -47,6 +47,15 @@ impl Play<u8, View> for Look {
     ghost then = { Looks };
 }
 
+/// The log end looks at the word, which bounds what it took in.
+pub(crate) struct Bound;
+
+impl Play<u8, View> for Bound {
+    ghost use Rattle.bp_mark.specs.Views.{Bounds};
+
+    ghost then = { Bounds };
+}
+
 /// The log end gives the first reader, which has seen nothing.
 pub(crate) struct First;
 
@@ -78,7 +87,7 @@ impl Join<View> for JoinReaders {
     ghost spent = { reader 0 };
 }
 
-/// The log end takes in what the last reader has seen. That reader is spent.
+/// The log end takes in what a reader has seen. That reader is spent.
 pub(crate) struct Last;
 
 impl Join<View> for Last {

@@ -43,7 +43,8 @@ pub enum Refusal {
     OutOfMemory,
     /// Each of the 32 places of the session's ring has a pass that the pool has not taken yet.
     RingFull,
-    /// In a run of threads a mark came before the log rows of client 0 allow it.
+    /// In a run of threads a mark came before the log rows of client 0 allow it. No call answers it: that it cannot come
+    /// is proved.
     Disagree,
     /// The page that is to be discarded is pinned, even if the pass is the caller's own.
     Pinned,

@@ -4,5 +4,6 @@ mod Striped
 mod Asking
 mod Raising
 pub mod Placing
-mod Closing
+pub mod Closing
 mod Dealing
+mod Flushing

@@ -1,14 +1,15 @@
 -- What a flush of all parts does, part after part.
-use Rattle.std.specs.Prelude.{ℕ, ◌+◌, Bool, Result, Ok, Err}
+use Rattle.std.specs.Prelude.{ℕ, ◌+◌, Bool, Result, Ok, Err, slice_index_or}
 use Rattle.bp_trail.specs.declared.ends.NotFlushed.{NotFlushed}
 use Rattle.bp_trail.specs.Parameters.{Parameters}
 use Rattle.bp_trail.specs.Trail.{Trail}
 use Rattle.bp_ports.specs.Files.{Transfer}
 use Rattle.bp_ports.specs.Stripes.{StripedView, ReadsStriped, WritesStriped, turned}
-use Rattle.bp_shared.specs.Sessions.{DoesWorkSaid}
+use Rattle.bp_shared.specs.FlushAll.{Pool, Reaches}
+use Rattle.bp_shared.specs.Sessions.{SessionValue, DoesWorkSaid}
 use Rattle.bp_shared.specs.Writing.{WithLsnSeen}
 use Rattle.bp_parts.specs.Calls.{FlushesAllIn}
-use Rattle.bp_parts.specs.Parts.{PartedValue, InPart}
+use Rattle.bp_parts.specs.Parts.{PartedValue, InPart, page_in_part, part_of}
 
 -- what its pool has: whether it refuses memory, its parameters and the trail that it began with;
 -- and how a store reads and writes
@@ -44,3 +45,11 @@ FlushesAllParts o parts (Ok done) old port new after = FlushesParts o old port p
 FlushesAllParts {S} o parts (Err (n, stop)) old port new after =
     (mid : PartedValue) × (now : StripedView S) × FlushesParts o old port n mid now
     × FlushesPart {A = Unit {0}} o n (Err stop) mid now new after
+
+-- between these two the client's session in the page's part looked at that part's trail, and the page
+-- was not unsaved in it, or a flush of the page was answered
+abbrev pub ReachesInPart : Pool → ℕ → ℕ → PartedValue → PartedValue → Type 0
+ReachesInPart o parts page old new =
+    (d : SessionValue) → Reaches o (page_in_part parts page)
+    (slice_index_or old.sessions (part_of parts page) d)
+    (slice_index_or new.sessions (part_of parts page) d)

@@ -7,6 +7,7 @@
 #![tactic(auto)]
 
 pub mod ending;
+pub mod laws;
 pub mod log_writer;
 pub mod making;
 pub mod passes;

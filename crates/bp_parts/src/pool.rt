@@ -64,11 +64,20 @@ impl<N: PartNames + PartCount, K: ListKeeper> PartedPool<N, K> {
         PartedPool { parts }
     }
 
-    /// Returns the number of parts.
+    /// Returns the number of parts, 1 to 64.
     pub fn count(&self) -> u8
-        ensures { result ≡ N.parts }
+        ensures parts { result ≡ N.parts }
+        ensures some { 0 < result }
     {
         self.parts.len() as u8
+    }
+
+    /// Returns the part of a page of the file.
+    pub fn part_of(&self, page: PageNo) -> u8
+        ensures part { result ≡ part_of N.parts page }
+        ensures few { result < N.parts }
+    {
+        (page.number() % self.parts.len() as u64) as u8
     }
 
     /// Lends the pools of the parts, in order.
@@ -122,8 +131,10 @@ impl<N: PartNames + PartCount, K: ListKeeper> PartedPool<N, K> {
         requires page_in { page < N.parts * N.parameters.pages }
         requires stripes { port.old.parts ≡ N.parts }
         requires size { port.old.file.device.size ≡ N.parameters.size }
+        ensures client { session.new.client ≡ session.old.client }
         ensures device { port.new.file.device ≡ port.old.file.device }
         ensures stripes { port.new.parts ≡ port.old.parts }
+        ensures part { IfOk result (λ pass. pass.part < N.parts) }
         ensures outcome { (given : _) × OfPart (part_of N.parts page) result given
             × InPart (part_of N.parts page) session.old session.new (λ old new.
             FixesIn K.REFUSES N.parameters N.past (page_in_part N.parts page) given old new
@@ -150,8 +161,10 @@ impl<N: PartNames + PartCount, K: ListKeeper> PartedPool<N, K> {
         requires page_in { page < N.parts * N.parameters.pages }
         requires stripes { port.old.parts ≡ N.parts }
         requires size { port.old.file.device.size ≡ N.parameters.size }
+        ensures client { session.new.client ≡ session.old.client }
         ensures device { port.new.file.device ≡ port.old.file.device }
         ensures stripes { port.new.parts ≡ port.old.parts }
+        ensures part { IfOk result (λ pass. pass.part < N.parts) }
         ensures outcome { (given : _) × OfPart (part_of N.parts page) result given
             × InPart (part_of N.parts page) session.old session.new (λ old new.
             FixesIn K.REFUSES N.parameters N.past (page_in_part N.parts page) given old new
@@ -175,6 +188,7 @@ impl<N: PartNames + PartCount, K: ListKeeper> PartedPool<N, K> {
         session: &mut PartedSession<N, K>,
         pass: PartPass,
     ) -> Result<(), (PartPass, Refusal)>
+        ensures client { session.new.client ≡ session.old.client }
         ensures outcome { UnfixedIn N.parts session.old pass result session.new }
     {
         let PartPass { part, pass } = pass;
@@ -197,6 +211,7 @@ impl<N: PartNames + PartCount, K: ListKeeper> PartedPool<N, K> {
         session: &mut PartedSession<N, K>,
         pass: PartPass,
     ) -> Result<(), (PartPass, Refusal)>
+        ensures client { session.new.client ≡ session.old.client }
         ensures outcome { UnfixedIn N.parts session.old pass result session.new }
         ensures room { IfErr result (λ back. back.1 ≡ Refusal.UnknownPass) }
     {
@@ -220,6 +235,7 @@ impl<N: PartNames + PartCount, K: ListKeeper> PartedPool<N, K> {
         part: u8,
     ) -> Result<u64, Refusal>
         requires part { part < N.parts }
+        ensures client { session.new.client ≡ session.old.client }
         ensures outcome { InPart part session.old session.new (λ old new.
             PurgesIn K.REFUSES N.parameters N.past result old new) }
     {
@@ -236,6 +252,7 @@ impl<N: PartNames + PartCount, K: ListKeeper> PartedPool<N, K> {
         n: u64,
     ) -> Result<(), Refusal>
         requires part { part < N.parts }
+        ensures client { session.new.client ≡ session.old.client }
         ensures outcome { InPart part session.old session.new (λ old new.
             TicksIn K.REFUSES N.parameters N.past n result old new) }
     {
@@ -253,6 +270,7 @@ impl<N: PartNames + PartCount, K: ListKeeper> PartedPool<N, K> {
     ) -> Result<Flushed, Refusal>
         requires page_in { page < N.parts * N.parameters.pages }
         requires stripes { port.old.parts ≡ N.parts }
+        ensures client { session.new.client ≡ session.old.client }
         ensures device { port.new.file.device ≡ port.old.file.device }
         ensures stripes { port.new.parts ≡ port.old.parts }
         ensures outcome { InPart (part_of N.parts page) session.old session.new (λ old new.
@@ -274,6 +292,7 @@ impl<N: PartNames + PartCount, K: ListKeeper> PartedPool<N, K> {
         page: PageNo,
     ) -> Result<Discarded, Refusal>
         requires page_in { page < N.parts * N.parameters.pages }
+        ensures client { session.new.client ≡ session.old.client }
         ensures outcome { InPart (part_of N.parts page) session.old session.new (λ old new.
             DiscardsIn K.REFUSES N.parameters N.past (page_in_part N.parts page) result old new) }
     {
@@ -290,6 +309,7 @@ impl<N: PartNames + PartCount, K: ListKeeper> PartedPool<N, K> {
         pass: &PartPass,
     ) -> Result<Image, Refusal>
         requires part { pass.now.part < N.parts }
+        ensures client { session.new.client ≡ session.old.client }
         ensures size { IfOk result (λ image. length image ≡ N.parameters.size) }
         ensures outcome { InPart pass.now.part session.old session.new (λ old new.
             ReadsIn K.REFUSES N.parameters N.past pass.now.pass result old new) }
@@ -309,6 +329,7 @@ impl<N: PartNames + PartCount, K: ListKeeper> PartedPool<N, K> {
     ) -> Result<(), Refusal>
         requires part { pass.now.part < N.parts }
         requires fits { offset + length into.old ≤ N.parameters.size }
+        ensures client { session.new.client ≡ session.old.client }
         ensures outcome { InPart pass.now.part session.old session.new (λ old new.
             LooksIn K.REFUSES N.parameters N.past pass.now.pass result old new
             × ReadIntoSaid old.client pass.now.pass offset into.old result into.new
@@ -331,6 +352,7 @@ impl<N: PartNames + PartCount, K: ListKeeper> PartedPool<N, K> {
     ) -> Result<(), Refusal>
         requires part { pass.now.part < N.parts }
         requires fits { offset + length bytes.now ≤ N.parameters.size }
+        ensures client { session.new.client ≡ session.old.client }
         ensures outcome { InPart pass.now.part session.old session.new (λ old new.
             LooksIn K.REFUSES N.parameters N.past pass.now.pass result old new
             × WriteSaid old.client pass.now.pass offset bytes.now lsn result old.said new.said) }

@@ -1,7 +1,6 @@
 -- Over a core with one owner.
 pub mod ClientPasses
 pub mod GivingBack
-pub mod HeldRising
 pub mod HeldSlots
 pub mod PieceSteps
 pub mod Removing
@@ -15,6 +14,8 @@ pub mod Ruling
 pub mod Stepping
 pub mod Holding
 pub mod Following
+pub mod Bounding
+pub mod Once
 pub mod Adding
 pub mod Making
 pub mod Playing

@@ -1,8 +1,8 @@
 -- How a port's work grows with its client's list, step by step.
-use Rattle.std.proofs.Common.{◌≡◌, refl, sym, ◌∙◌, ap, subst, ℕ, false, List, [], ◌∷◌, Option, Some, None}
+use Rattle.std.proofs.Common.{◌≡◌, refl, sym, ◌∙◌, ap, subst, ℕ, List, [], ◌∷◌, Option, Some, None}
 use Rattle.std.proofs.lemmas.List.{append-nil}
 use Rattle.bp_trail.specs.declared.entries.Call.{Call}
-use Rattle.bp_trail.specs.declared.entries.Call.TheVariants.{Tick, Read, Write, Unfix, Discard, Purge}
+use Rattle.bp_trail.specs.declared.entries.Call.TheVariants.{Tick, Read, Write, Unfix, Purge}
 use Rattle.bp_trail.specs.declared.entries.Reply.{Reply}
 use Rattle.bp_scripts.specs.declared.rows.Step.{Step}
 use Rattle.bp_scripts.specs.declared.rows.Step.TheVariants as step
@@ -18,8 +18,7 @@ use Rattle.bp_scripts.specs.Script.{latest_pass, WithPass, RowPiece, GivesBack}
 use Rattle.bp_scripts.specs.Script.GivesBack.{none_held, next}
 use Rattle.bp_core.specs.Work.{Reads, Writes, Works, WorksThrough}
 use Rattle.bp_shared.specs.Sessions.{WithSomeLsn, DoesWorkSaid}
-use Rattle.bp_replay.specs.Steps.{is_fault, AddsStep, StepSaid, StepWork}
-use Rattle.bp_replay.proofs.Following.{no_fault}
+use Rattle.bp_replay.specs.Steps.{StepSaid, StepWork}
 
 -- a step without device work
 abbrev IsQuiet : Step → Type 0
@@ -66,26 +65,24 @@ module _ {P : Type 0} (reads : Reads P) (writes : Writes P) where
   quiet-piece said piece port client (step.Log lsn) o quiet h = subst (λ es. WorksThrough reads writes said es port port) (sym h.0) refl
 
 module _ {P : Type 0} (reads : Reads P) (writes : Writes P) where
-  quiet : (client : ℕ) (s : Step) (o : Outcome) (said after : Trail) (port kept : P) → IsQuiet s → StepSaid client s o said after → is_fault o ≡ false → kept ≡ port → DoesWorkSaid reads writes said after port kept
-  quiet client s o said after port kept is says none same =
-      let adds : AddsStep client s o said after = no_fault (is_fault o) none says in
-      record {
-        piece = adds.piece;
-        grows = adds.grows;
-        through = subst (λ k. WorksThrough reads (WithSomeLsn writes) said adds.piece port k) (sym same) (quiet-piece reads (WithSomeLsn writes) said adds.piece port client s o is adds.of_row);
-      }
+  quiet : (client : ℕ) (s : Step) (o : Outcome) (said after : Trail) (port kept : P) → IsQuiet s → StepSaid client s o said after → kept ≡ port → DoesWorkSaid reads writes said after port kept
+  quiet client s o said after port kept is adds same = record {
+    piece = adds.piece;
+    grows = adds.grows;
+    through = subst (λ k. WorksThrough reads (WithSomeLsn writes) said adds.piece port k) (sym same) (quiet-piece reads (WithSomeLsn writes) said adds.piece port client s o is adds.of_row);
+  }
 
   -- what one step had the port do is the work of what it added
-  pub step-work : (client : ℕ) (s : Step) (o : Outcome) (said after : Trail) (port kept : P) → StepSaid client s o said after → is_fault o ≡ false → StepWork reads writes s said after port kept → DoesWorkSaid reads writes said after port kept
-  step-work client (step.Fix page) o said after port kept says none work = work
-  step-work client (step.Flush page) o said after port kept says none work = work
-  step-work client (step.Unfix page) o said after port kept says none same = quiet client (step.Unfix page) o said after port kept tt says none same
-  step-work client (step.Read page) o said after port kept says none same = quiet client (step.Read page) o said after port kept tt says none same
-  step-work client (step.Write page offset bytes lsn) o said after port kept says none same = quiet client (step.Write page offset bytes lsn) o said after port kept tt says none same
-  step-work client (step.Discard page) o said after port kept says none same = quiet client (step.Discard page) o said after port kept tt says none same
-  step-work client (step.Tick n) o said after port kept says none same = quiet client (step.Tick n) o said after port kept tt says none same
-  step-work client step.Purge o said after port kept says none same = quiet client step.Purge o said after port kept tt says none same
-  step-work client (step.Log lsn) o said after port kept says none same = quiet client (step.Log lsn) o said after port kept tt says none same
+  pub step-work : (client : ℕ) (s : Step) (o : Outcome) (said after : Trail) (port kept : P) → StepSaid client s o said after → StepWork reads writes s said after port kept → DoesWorkSaid reads writes said after port kept
+  step-work client (step.Fix page) o said after port kept says work = work
+  step-work client (step.Flush page) o said after port kept says work = work
+  step-work client (step.Unfix page) o said after port kept says same = quiet client (step.Unfix page) o said after port kept tt says same
+  step-work client (step.Read page) o said after port kept says same = quiet client (step.Read page) o said after port kept tt says same
+  step-work client (step.Write page offset bytes lsn) o said after port kept says same = quiet client (step.Write page offset bytes lsn) o said after port kept tt says same
+  step-work client (step.Discard page) o said after port kept says same = quiet client (step.Discard page) o said after port kept tt says same
+  step-work client (step.Tick n) o said after port kept says same = quiet client (step.Tick n) o said after port kept tt says same
+  step-work client step.Purge o said after port kept says same = quiet client step.Purge o said after port kept tt says same
+  step-work client (step.Log lsn) o said after port kept says same = quiet client (step.Log lsn) o said after port kept tt says same
 
   -- passes that go back have no work
   went-back : (said mid after : Trail) (port now : P) → DoesWorkSaid reads writes said mid port now → GivesBack mid after → DoesWorkSaid reads writes said after port now

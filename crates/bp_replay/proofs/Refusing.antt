@@ -1,12 +1,11 @@
 -- Why a run is refused.
 use Rattle.std.proofs.Common.{◌≡◌, sym, ◌∙◌, ap, subst, Result, Ok, Err}
-use Rattle.std.specs.Prelude.{IfErr}
+use Rattle.std.specs.Prelude.{OnErr}
 use Rattle.bp_page.specs.declared.refusals.Refusal.{Refusal}
 use Rattle.bp_page.specs.declared.refusals.Refusal.TheVariants as refusal
 use Rattle.bp_trail.specs.Parameters.{Parameters}
 use Rattle.bp_core.specs.Outcomes.{IsFit}
 use Rattle.bp_workers.specs.Runs.{RunAnswers as WorkersAnswer}
-use Rattle.bp_replay.specs.Players.{NotAdded}
 use Rattle.bp_replay.specs.ScriptRuns.{RunAnswers}
 
 -- no core can be made
@@ -20,8 +19,6 @@ for_workers c can_run result ran refusal.OutOfMemory is answers can fit = subst 
 for_workers c can_run result ran _ is answers can fit = absurd answers
 
 -- what was left is not joined
-pub not_joined : {A : Type 0} (c : Parameters) (disagrees : Type 0) (result : Result A Refusal) → IsFit c → IfErr result (NotAdded disagrees) → RunAnswers c result
-not_joined c disagrees (Ok done) fit h = fit
-not_joined c disagrees (Err refusal.OutOfMemory) fit h = fit
-not_joined c disagrees (Err refusal.Disagree) fit h = fit
-not_joined c disagrees (Err _) fit h = absurd h
+pub not_joined : {A : Type 0} (c : Parameters) (result : Result A Refusal) → IsFit c → OnErr result (result ≡ Err refusal.OutOfMemory) → RunAnswers c result
+not_joined c (Ok done) fit h = fit
+not_joined c (Err why) fit h = subst (RunAnswers c) (sym h) fit

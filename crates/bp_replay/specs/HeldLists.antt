@@ -1,32 +1,20 @@
 -- What a list of passes held is seen as, and how its slots and its table stand for it.
-use Rattle.std.specs.Prelude.{◌≡◌, ℕ, Bool, true, ◌&&◌, ◌==◌, nat_lt, if◌then◌else◌, List, [], ◌∷◌, length, map}
+use Rattle.std.specs.Prelude.{◌≡◌, ℕ, Bool, true, ◌&&◌, ◌==◌, if◌then◌else◌, List, [], ◌∷◌, length}
 use Rattle.std.specs.Prelude.{Option, Some, None}
 use Rattle.std.specs.HashMap.{HashMap, get}
 use Rattle.bp_trail.specs.Event.{Grant}
 use Rattle.bp_scripts.specs.Script.{is_pass_of}
 use Rattle.bp_replay.specs.declared.held_list.Slot.{Slot}
 
--- the passes, in the order taken; the serial numbers of all that were ever taken, in that order; and
--- how many more passes the list takes with no memory taken
+-- the passes, in the order taken, and how many more the list takes with no memory taken
 pub record HeldValue : Type 0 where
   pub passes : List Grant
-  pub serials : List ℕ
   pub room : ℕ
 
 -- the passes of these slots that are held, in their order
 abbrev pub passes_in : List Slot → List Grant
 passes_in [] = []
 passes_in (s ∷ ss) = if s.is_held then s.note ∷ passes_in ss else passes_in ss
-
--- each number is greater than the one before it
-abbrev pub rise : List ℕ → Bool
-rise [] = true
-rise (n ∷ []) = true
-rise (n ∷ m ∷ more) = nat_lt n m && rise (m ∷ more)
-
--- the serial numbers of the slots
-abbrev pub serials_in : List Slot → List ℕ
-serials_in slots = map (λ s. s.note.serial) slots
 
 -- a key is a client and a page
 abbrev pub same_key : ℕ × ℕ → ℕ × ℕ → Bool

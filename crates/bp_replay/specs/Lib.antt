@@ -4,6 +4,7 @@ pub mod Rows
 -- Scripts of client threads, each played by a worker.
 pub mod Steps
 pub mod Scripts
+pub mod Bounds
 pub mod Players
 pub mod Rules
 pub mod ScriptRuns

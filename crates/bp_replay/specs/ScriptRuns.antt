@@ -81,10 +81,10 @@ pub record IsRun {P : Type 0} (reads : Reads P) (writes : Writes P) (c : Paramet
       (list_of 0 follows.refusals)
 
 -- what the clients left, with the refused rows of all put in the order of their numbers
-pub record Joined {P : Type 0} (trail : List Entry) (lefts : List (LeftValue P))
-    (said : List (List Entry)) (refused : List Refused) (ports : List P) : Type 0 where
+pub record Joined {P : Type 0} (lefts : List (LeftValue P)) (said : List (List Entry))
+    (refused : List Refused) (ports : List P) : Type 0 where
   pub one_by_one : List Refused
-  pub collected : Collected trail lefts said one_by_one ports
+  pub collected : Collected lefts said one_by_one ports
   pub same : IsPermutation one_by_one refused
   pub in_order : IsNonDecreasingBy (λ r. r.row) refused
 
@@ -93,7 +93,6 @@ abbrev pub RunAnswers : {A : Type 0} → Parameters → Result A Refusal → Typ
 RunAnswers c (Ok done) = IsFit c
 RunAnswers c (Err refusal.BadSettings) = ¬ IsFit c
 RunAnswers c (Err refusal.OutOfMemory) = IsFit c
-RunAnswers c (Err refusal.Disagree) = IsFit c
 RunAnswers c (Err _) = ⊥
 
 -- ---- a trail that is taken in pieces

@@ -5,7 +5,7 @@ ghost use Rattle.std.specs.Prelude.{IfNone, IfSome, IsSome, IsTrue, OnOk};
 ghost use Rattle.std.specs.HashMap.{get, spare};
 ghost use Rattle.bp_scripts.specs.Script.{is_pass_of};
 ghost use Rattle.bp_replay.specs.declared.held_list.Slot.{Slot};
-ghost use Rattle.bp_replay.specs.HeldLists.{passes_in, same_key, rise, serials_in};
+ghost use Rattle.bp_replay.specs.HeldLists.{passes_in, same_key};
 ghost use Rattle.bp_replay.specs.Rows.{SerialsDiffer};
 
 use bp_core::PassNote;
@@ -37,27 +37,22 @@ pub struct HeldList {
     slots: Vec<Slot>,
     /// For each client and page, the place of the latest pass that it took and holds.
     latest: HashMap<Key, usize>,
-    /// True if each slot has a greater serial number than the one before it.
-    is_rising: bool,
 }
 
 impl Model for HeldList {
     ghost use Rattle.std.specs.Prelude.{◌≡◌, ◌-◌, min, reverse, vec_len, vec_capacity};
     ghost use Rattle.std.specs.HashMap.{spare};
     ghost use Rattle.bp_replay.specs.HeldLists.{HeldValue, passes_in, AreLinked, FindsNewest};
-    ghost use Rattle.bp_replay.specs.HeldLists.{rise, serials_in};
 
     ghost Value = { HeldValue };
 
     ghost view = { λ h. record {
       passes = passes_in h.slots.items;
-      serials = serials_in h.slots.items;
       room = min (vec_capacity h.slots - vec_len h.slots) (spare h.latest);
     } };
 
     ghost invariant = { λ h. AreLinked (reverse h.slots.items)
-        × FindsNewest h.latest (reverse h.slots.items)
-        × (h.is_rising ≡ rise (serials_in h.slots.items)) };
+        × FindsNewest h.latest (reverse h.slots.items) };
 }
 
 /// The client and the page of the pass.
@@ -93,17 +88,6 @@ fn relink(latest: &mut HashMap<Key, usize>, key: Key, place: Option<usize>)
     }
 }
 
-/// Returns true if the numbers rise with one note more.
-fn rises_with(slots: &[Slot], is_rising: bool, note: &PassNote) -> bool
-    requires { is_rising ≡ rise (serials_in slots.now) }
-    ensures { result ≡ rise (serials_in slots.now ++ note.now.serial ∷ []) }
-{
-    match slots.last() {
-        Some(last) => is_rising && last.note.serial() < note.serial(),
-        None => true,
-    }
-}
-
 /// Adds the slot's note, if its pass is held.
 fn add_held(notes: &mut Vec<PassNote>, slot: &Slot)
     requires room { IsTrue slot.now.is_held → vec_len notes.old < vec_capacity notes.old }
@@ -131,33 +115,21 @@ impl HeldList {
     /// Makes an empty list. It takes no memory.
     pub fn new(alloc: Global) -> HeldList
         ensures passes { result.passes ≡ [] }
-        ensures serials { result.serials ≡ [] }
     {
         HeldList {
             slots: Vec::new(alloc),
             latest: HashMap::new(alloc),
-            is_rising: true,
         }
     }
 
     /// Makes room for so many more. Where memory is refused the passes stay, with no less room.
     pub fn reserve(&mut self, more: usize) -> Result<(), AllocError>
         ensures passes { self.new.passes ≡ self.old.passes }
-        ensures serials { self.new.serials ≡ self.old.serials }
         ensures room { OnOk result (more ≤ self.new.room) }
         ensures no_less { self.old.room ≤ self.new.room }
     {
         self.slots.reserve(more)?;
         self.latest.reserve(more)
-    }
-
-    /// Returns true if each pass had a greater serial number than the one taken before it, as those of one core have.
-    /// Then no two have the same.
-    pub fn serials_rise(&self) -> bool
-        ensures rise { result ≡ rise self.now.serials }
-        ensures differ { IsTrue result → SerialsDiffer self.now.passes }
-    {
-        self.is_rising
     }
 
     /// Returns the pass of the page that the client took latest and holds.
@@ -174,10 +146,8 @@ impl HeldList {
     pub fn push(&mut self, note: PassNote)
         requires room { 0 < self.old.room }
         ensures passes { self.new.passes ≡ self.old.passes ++ note ∷ [] }
-        ensures serials { self.new.serials ≡ self.old.serials ++ note.serial ∷ [] }
         ensures room { self.old.room ≤ self.new.room + 1 }
     {
-        self.is_rising = rises_with(&self.slots, self.is_rising, &note);
         let place = self.slots.len();
         let Ok(previous) = self.latest.insert(key_of(&note), place) else {
             unreachable!()
@@ -197,7 +167,6 @@ impl HeldList {
         ensures taken { IfSome result (λ note. self.new.passes ≡
             filter (λ g. not (g.serial == note.serial)) self.old.passes) }
         ensures none { IfNone result (self.new.passes ≡ self.old.passes) }
-        ensures serials { self.new.serials ≡ self.old.serials }
         ensures room { self.old.room ≤ self.new.room }
     {
         let Some(place) = place_of(&self.latest, (client, page.number())) else {

@@ -1,17 +1,20 @@
 //! `ScriptPlayer`: a worker that plays one client's script.
-ghost use Rattle.std.specs.Prelude.{◌≡◌, ◌≤◌, IsTrue, [], length, reverse, vec_capacity};
-ghost use Rattle.bp_trail.specs.Pieces.{outcome_of};
-ghost use Rattle.bp_replay.specs.Steps.{is_fault, Stays};
-ghost use Rattle.bp_replay.specs.Scripts.{RowsFit};
-ghost use Rattle.bp_replay.specs.Players.{PlaysRows};
+ghost use Rattle.std.specs.Prelude.{◌≡◌, ◌+◌, ◌<◌, ◌≤◌, List, [], ◌∷◌, ◌++◌, length, reverse, vec_len, vec_capacity};
+ghost use Rattle.bp_scripts.specs.declared.rows.Row.{Row};
+ghost use Rattle.bp_trail.specs.HeldPasses.{held_passes};
+ghost use Rattle.bp_scripts.specs.LogBound.{log_of, logged};
+ghost use Rattle.bp_replay.specs.Bounds.{IsBounded, RaisesMark};
+ghost use Rattle.bp_replay.specs.Steps.{GivesEachOnce, Stays};
+ghost use Rattle.bp_replay.specs.Scripts.{IsRowOf, RowsFit};
+ghost use Rattle.bp_replay.specs.Players.{GrowsBy, PlaysRows};
 
 use crate::driving::note_refused;
 use crate::held_list::HeldList;
 use crate::steps::step;
-use bp_core::{Entry, RecordingKeeper};
-use bp_page::{Geometry, Refusal};
+use bp_core::RecordingKeeper;
+use bp_page::Geometry;
 use bp_ports::Port;
-use bp_scripts::{Refused, Row, is_within_log};
+use bp_scripts::{Refused, Row, Step};
 use bp_shared::{LogWriter, PoolName, SharedPool};
 use bp_workers::{Client, Upkeep, Worker};
 use std::alloc::{AllocError, Global};
@@ -30,8 +33,6 @@ pub(crate) struct ScriptPlayer {
     /// For each row that was run, the number of entries of the client's list after it.
     ends: Vec<usize>,
     refused: Vec<Refused>,
-    /// True if the whole script was run, and the pool knew all that it had given.
-    is_done: bool,
 }
 
 impl Model for ScriptPlayer {
@@ -40,10 +41,10 @@ impl Model for ScriptPlayer {
 
     ghost Value = { PlayerValue };
 
-    ghost view = { λ p. player_view p.client p.geometry p.script p.ends p.refused p.is_done };
+    ghost view = { λ p. player_view p.client p.geometry p.script p.ends p.refused };
 
     ghost invariant = { λ p.
-        IsPlayer (player_view p.client p.geometry p.script p.ends p.refused p.is_done)
+        IsPlayer (player_view p.client p.geometry p.script p.ends p.refused)
         (vec_capacity p.ends) (vec_capacity p.refused) };
 }
 
@@ -54,27 +55,50 @@ fn count<N: PoolName, P: Port>(client: &Client<N, P>) -> usize
     client.session.said().len()
 }
 
-/// Returns true if an outcome is a fault of the run, and no row's.
-fn is_fault(outcome: &Result<(), Refusal>) -> bool
-    ensures { result ≡ is_fault (outcome_of outcome.now) }
+/// Makes the call of a row, and notes its refusal and where its piece ends.
+fn run_row<N: PoolName, P: Port, R: Wait>(
+    rt: &R,
+    pool: &SharedPool<N>,
+    client: &mut Client<N, P>,
+    held: &mut HeldList,
+    row: &Row,
+    ends: &mut Vec<usize>,
+    refused: &mut Vec<Refused>,
+)
+    requires fits { IsRowOf N.parameters client.old.session.client row.now }
+    requires uncut { client.old.session.before ≡ [] }
+    requires once { GivesEachOnce client.old.session.said }
+    requires held { held.old.passes ≡ held_passes client.old.session.said }
+    requires ends_room { vec_len ends.old < vec_capacity ends.old }
+    requires refused_room { vec_len refused.old < vec_capacity refused.old }
+    ensures same { Stays client.old.session client.new.session }
+    ensures held { held.new.passes ≡ held_passes client.new.session.said }
+    ensures plays { (rows : List Row) (first : P) →
+        PlaysRows P.read_gives P.write_gives rows client.old.session.said
+        (reverse ends.old.items) refused.old.items first client.old.port →
+        PlaysRows P.read_gives P.write_gives (rows ++ row.now ∷ []) client.new.session.said
+        (reverse ends.new.items) refused.new.items first client.new.port }
+    ensures grows { GrowsBy row.now client.old.session.said client.new.session.said }
+    ensures end { ends.new.items ≡ ends.old.items ++ length client.new.session.said ∷ [] }
+    ensures few { vec_len refused.new ≤ vec_len refused.old + 1 }
+    ensures ends_capacity { vec_capacity ends.new ≡ vec_capacity ends.old }
+    ensures refused_capacity { vec_capacity refused.new ≡ vec_capacity refused.old }
 {
-    match outcome {
-        Ok(()) => false,
-        Err(refusal) => matches!(refusal, Refusal::UnknownTicket | Refusal::Disagree),
-    }
+    let outcome = step(rt, pool, client, held, &row.step);
+    note_refused(refused, row.row, outcome);
+    ends.push_reserved(count(client));
 }
 
-/// Runs the rows in order, up to a fault of the run. Returns true if all were run.
+/// Runs the rows in order.
 fn run_rows<N: PoolName, P: Port, R: Wait>(
     rt: &R,
     alloc: Global,
     pool: &SharedPool<N>,
     client: &mut Client<N, P>,
-    log: &mut Option<&mut LogWriter<N>>,
     script: &[Row],
     ends: &mut Vec<usize>,
     refused: &mut Vec<Refused>,
-) -> bool
+)
     requires fits { RowsFit N.parameters client.old.session.client script.now }
     requires uncut { client.old.session.before ≡ [] }
     requires new { (client.old.session.said ≡ []) × (ends.old.items ≡ [])
@@ -82,29 +106,76 @@ fn run_rows<N: PoolName, P: Port, R: Wait>(
     requires ends_room { length script.now ≤ vec_capacity ends.old }
     requires refused_room { length script.now ≤ vec_capacity refused.old }
     ensures same { Stays client.old.session client.new.session }
-    ensures plays { IsTrue result → PlaysRows P.read_gives P.write_gives script.now
-        client.new.session.said (reverse ends.new.items) refused.new.items
-        client.old.port client.new.port }
+    ensures plays { PlaysRows P.read_gives P.write_gives script.now client.new.session.said
+        (reverse ends.new.items) refused.new.items client.old.port client.new.port }
     ensures ends_capacity { vec_capacity ends.new ≡ vec_capacity ends.old }
     ensures refused_capacity { vec_capacity refused.new ≡ vec_capacity refused.old }
 {
     let mut held = HeldList::new(alloc);
     for row in script {
-        let outcome = step(rt, pool, client, log, &mut held, &row.step);
-        if is_fault(&outcome) {
-            return false;
-        }
-        note_refused(refused, row.row, outcome);
-        ends.push_reserved(count(client));
+        run_row(rt, pool, client, &mut held, row, ends, refused);
     }
-    true
+}
+
+/// Raises the mark as a log row says, once the session has looked at the trail: so it knows that no mark came before this
+/// row. Any other row does nothing here.
+fn raise_mark<N: PoolName, P: Port, R: Wait>(
+    rt: &R,
+    pool: &SharedPool<N>,
+    client: &mut Client<N, P>,
+    log: &mut LogWriter<N>,
+    row: &Row,
+)
+    ensures port { client.new.port ≡ client.old.port }
+    ensures raises { RaisesMark N.parameters N.past (log_of row.now.step)
+        client.old.session log.old client.new.session log.new }
+{
+    if let Step::Log(lsn) = &row.step {
+        pool.show_marks(rt, &mut client.session, log);
+        log.raise(pool, *lsn);
+    }
+}
+
+/// Runs the rows of client 0 in order, with the log writer for its log rows.
+fn lead_rows<N: PoolName, P: Port, R: Wait>(
+    rt: &R,
+    alloc: Global,
+    pool: &SharedPool<N>,
+    client: &mut Client<N, P>,
+    log: &mut LogWriter<N>,
+    script: &[Row],
+    ends: &mut Vec<usize>,
+    refused: &mut Vec<Refused>,
+)
+    requires fits { RowsFit N.parameters client.old.session.client script.now }
+    requires uncut { client.old.session.before ≡ [] }
+    requires first { client.old.session.client ≡ 0 }
+    requires log { log.old ≡ 0 }
+    requires new { (client.old.session.said ≡ []) × (ends.old.items ≡ [])
+        × (refused.old.items ≡ []) }
+    requires ends_room { length script.now ≤ vec_capacity ends.old }
+    requires refused_room { length script.now ≤ vec_capacity refused.old }
+    ensures same { Stays client.old.session client.new.session }
+    ensures plays { PlaysRows P.read_gives P.write_gives script.now client.new.session.said
+        (reverse ends.new.items) refused.new.items client.old.port client.new.port }
+    ensures log { log.new ≡ logged script.now }
+    ensures bounded { IsBounded script.now (reverse ends.new.items)
+        (length client.new.session.said) client.new.session.seen }
+    ensures ends_capacity { vec_capacity ends.new ≡ vec_capacity ends.old }
+    ensures refused_capacity { vec_capacity refused.new ≡ vec_capacity refused.old }
+{
+    let mut held = HeldList::new(alloc);
+    for row in script {
+        raise_mark(rt, pool, client, log, row);
+        run_row(rt, pool, client, &mut held, row, ends, refused);
+    }
+    pool.show_marks(rt, &mut client.session, log);
 }
 
 impl ScriptPlayer {
-    ghost use Rattle.std.specs.Prelude.{◌≡◌, ◌↔◌, IfOk, IsTrue, [], reverse};
-    ghost use Rattle.bp_scripts.specs.LogBound.{IsWithinLog};
+    ghost use Rattle.std.specs.Prelude.{◌≡◌, ◌↔◌, IfOk, IsTrue, []};
     ghost use Rattle.bp_replay.specs.Scripts.{CanPlay};
-    ghost use Rattle.bp_replay.specs.Players.{new_player, Plays};
+    ghost use Rattle.bp_replay.specs.Players.{new_player, IsUnplayed, Leads, Plays};
 
     pub(crate) fn new(
         alloc: Global,
@@ -124,13 +195,12 @@ impl ScriptPlayer {
             script,
             ends,
             refused,
-            is_done: false,
         })
     }
 
     /// Returns true if nothing was run yet, and this client at a port of this geometry may run its rows.
     fn may_play(&self, client: u8, geometry: &Geometry) -> bool
-        ensures new { IsTrue result → (self.now.ends ≡ []) × (self.now.refused ≡ []) }
+        ensures new { IsTrue result ↔ IsUnplayed self.now client geometry.now }
         ensures fits { IsTrue result → CanPlay geometry.now client self.now.script }
     {
         if !self.ends.is_empty() || !self.refused.is_empty() {
@@ -148,16 +218,44 @@ impl ScriptPlayer {
         rt: &R,
         pool: &SharedPool<N>,
         client: &mut Client<N, P>,
-        log: &mut Option<&mut LogWriter<N>>,
     )
         requires new { (client.old.session.said ≡ []) × (client.old.session.before ≡ []) }
         ensures whose { client.new.session.client ≡ client.old.session.client }
-        ensures plays { Plays P.read_gives P.write_gives self.old client.old.port
+        ensures plays { Plays P.read_gives P.write_gives P.geometry_of self.old client.old.port
             self.new client.new.port client.new.session }
     {
-        self.is_done = false;
         if self.may_play(client.session.client(), &client.port.geometry()) {
-            self.is_done = run_rows(
+            run_rows(
+                rt,
+                self.alloc,
+                pool,
+                client,
+                &self.script,
+                &mut self.ends,
+                &mut self.refused,
+            );
+        }
+    }
+
+    /// Plays the script of client 0 as `play` does, with the writer of the mark for its log rows.
+    fn lead_play<N: PoolName, P: Port, R: Wait>(
+        &mut self,
+        rt: &R,
+        pool: &SharedPool<N>,
+        client: &mut Client<N, P>,
+        log: &mut LogWriter<N>,
+    )
+        requires new { (client.old.session.said ≡ []) × (client.old.session.before ≡ []) }
+        requires first { client.old.session.client ≡ 0 }
+        requires log { log.old ≡ 0 }
+        ensures whose { client.new.session.client ≡ client.old.session.client }
+        ensures plays { Plays P.read_gives P.write_gives P.geometry_of self.old client.old.port
+            self.new client.new.port client.new.session }
+        ensures leads { IsUnplayed self.old 0 (P.geometry_of client.old.port) →
+            Leads self.old.script self.new.ends client.new.session log.new }
+    {
+        if self.may_play(client.session.client(), &client.port.geometry()) {
+            lead_rows(
                 rt,
                 self.alloc,
                 pool,
@@ -170,20 +268,6 @@ impl ScriptPlayer {
         }
     }
 
-    /// Returns true if the whole script was run, and the pool knew all that it had given.
-    pub(crate) fn is_done(&self) -> bool
-        ensures { result ≡ self.now.is_done }
-    {
-        self.is_done
-    }
-
-    /// Returns true if in this trail no mark comes before the log rows allow it.
-    pub(crate) fn bounds_marks(&self, trail: &[Entry]) -> bool
-        ensures { IsTrue result ↔ IsWithinLog self.now.script self.now.ends (reverse trail.now) }
-    {
-        is_within_log(trail, &self.script, &self.ends)
-    }
-
     pub(crate) fn refused(&self) -> &[Refused]
         ensures { result.now ≡ self.now.refused }
     {
@@ -194,7 +278,7 @@ impl ScriptPlayer {
 impl<P: Port> Worker<P, RecordingKeeper> for ScriptPlayer {
     ghost use Rattle.bp_replay.specs.Players.{PlayerLeaves};
 
-    ghost leaves = { PlayerLeaves P.read_gives P.write_gives };
+    ghost leaves = { PlayerLeaves P.read_gives P.write_gives P.geometry_of };
 
     fn work<N: PoolName, R: Wait>(
         &mut self,
@@ -202,7 +286,7 @@ impl<P: Port> Worker<P, RecordingKeeper> for ScriptPlayer {
         pool: &SharedPool<N>,
         client: &mut Client<N, P>,
     ) {
-        self.play(rt, pool, client, &mut None);
+        self.play(rt, pool, client);
     }
 
     /// Plays as `work` does, with the writer of the mark for log rows.
@@ -213,6 +297,6 @@ impl<P: Port> Worker<P, RecordingKeeper> for ScriptPlayer {
         client: &mut Client<N, P>,
         upkeep: &mut Upkeep<N>,
     ) {
-        self.play(rt, pool, client, &mut Some(&mut upkeep.log));
+        self.lead_play(rt, pool, client, &mut upkeep.log);
     }
 }

@@ -1,11 +1,11 @@
-//! `run_clients`: runs a thread for each client, and looks once all have ended whether each script was run whole.
+//! `run_clients`: runs a thread for each client, and joins what they left.
 ghost use Rattle.std.specs.Prelude.{◌≡◌, ◌≤◌, ◌<◌, IfErr, IfOk, OnErr, OnOk, All, [], map};
 ghost use Rattle.std.specs.Prelude.{reverse, vec_len};
 ghost use Rattle.bp_page.specs.declared.refusals.Refusal.TheVariants as Refusal;
 ghost use Rattle.bp_core.specs.Agreement.{parameters_with};
 ghost use Rattle.bp_core.specs.Outcomes.{IsFit};
 ghost use Rattle.bp_replay.specs.Scripts.{EachCanPlay, EachScriptFits, lists};
-ghost use Rattle.bp_replay.specs.Players.{left_value, new_players, NotAdded, SomeDisagrees};
+ghost use Rattle.bp_replay.specs.Players.{left_value, new_players};
 ghost use Rattle.bp_replay.specs.ScriptRuns.{RunAnswers, Joined, IsRun};
 
 use crate::collecting::collect;
@@ -109,16 +109,17 @@ fn joined<P: Port>(
     requires empty { (said.items ≡ []) × (refused.items ≡ []) × (ports.items ≡ []) }
     ensures own { IfOk result (λ out. reverse out.0.trail.items ≡ run.core.past) }
     ensures room { IfOk result (λ out. vec_len out.0.trail ≤ run.core.parameters.room) }
-    ensures joined { IfOk result (λ out. Joined out.0.trail.items (map left_value run.left.items)
+    ensures joined { IfOk result (λ out. Joined (map left_value run.left.items)
         (lists out.0.said.items) out.0.refused.items out.1.items) }
-    ensures refused { IfErr result (NotAdded (SomeDisagrees (reverse run.core.past)
-        (map left_value run.left.items))) }
+    ensures refused { OnErr result (result ≡ Err Refusal.OutOfMemory) }
 {
     let Run { core, left } = run;
     let mut said = said;
     let mut refused = refused;
     let mut ports = ports;
-    match collect(core.trail(), left, &mut said, &mut refused, &mut ports) {
+    // By the core's type its entries are within the room.
+    let _ = core.trail();
+    match collect(left, &mut said, &mut refused, &mut ports) {
         Ok(()) => {}
         Err(refusal) => {
             drop(core);
@@ -135,7 +136,8 @@ fn joined<P: Port>(
 }
 
 /// Runs the clients of one pool, each in a thread of its own: client c runs `scripts[c]` over `ports[c]`, and gives
-/// back what it holds at the end. Client 0 has the log: a log row raises the durable mark.
+/// back what it holds at the end. Client 0 has the log: a log row raises the durable mark, once client 0 has looked at the
+/// trail, for which it takes the pool's lock.
 ///
 /// It takes 1 to 64 scripts and as many ports, whose pages are those of the configuration. A script has rows of its own
 /// client, of pages of the file and of bytes within a page, and log rows stand in script 0 alone.
@@ -144,8 +146,8 @@ fn joined<P: Port>(
 /// list is the trail's entries of that client and follows its script; no mark is ahead of the log rows of client 0; and
 /// each port, which comes back, did the work that its client's list tells and nothing else. `BadSettings` where the
 /// frames are not 1 to 65,536 or the room not 1 to 16,777,216, before any thread starts. `OutOfMemory` where memory is
-/// refused outside a row. `Disagree` where a script was not run whole, a pass did not go back, or a mark is above the log
-/// rows of client 0. Threads have ended at every return.
+/// refused outside a row. No other refusal comes: nothing is looked at when the threads have ended. Threads have ended at
+/// every return.
 pub fn run_clients<P: Port + Send, R: Threads + Wait + Sync>(
     rt: &R,
     alloc: Global,

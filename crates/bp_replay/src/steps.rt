@@ -1,54 +1,42 @@
 //! `step`: the call on a shared pool that each step of a script makes.
-ghost use Rattle.std.specs.Prelude.{◌≡◌, ◌≢◌, ◌+◌, ◌≤◌, ◌<◌, OnOk, OnErr, Err};
+ghost use Rattle.std.specs.Prelude.{◌≡◌, ◌≢◌, ◌+◌, ◌≤◌, ◌<◌, Err, true};
 ghost use Rattle.std.specs.Prelude.{◌∷◌, length};
 ghost use Rattle.bp_page.specs.declared.refusals.Refusal.TheVariants as Refusal;
 ghost use Rattle.bp_scripts.specs.declared.rows.Step.TheVariants as Step;
 ghost use Rattle.bp_scripts.specs.Fits.{StepFits};
 ghost use Rattle.bp_trail.specs.Pieces.{outcome_of};
 ghost use Rattle.bp_trail.specs.HeldPasses.{unfix_of, held_passes};
+ghost use Rattle.bp_trail.specs.Legal.{is_out};
+ghost use Rattle.bp_trail.specs.Passes.{passes_out};
 ghost use Rattle.bp_scripts.specs.Script.{latest_pass};
 ghost use Rattle.bp_shared.specs.Sessions.{DoesWorkSaid};
-ghost use Rattle.bp_replay.specs.Steps.{as_fault, Stays, StepSaid, StepWork};
+ghost use Rattle.bp_replay.specs.Steps.{GivesEachOnce, Stays, StepSaid, StepWork};
 
 use crate::held_list::HeldList;
 use bp_core::PassNote;
 use bp_page::{Bytes, Lsn, PageNo, Refusal};
 use bp_ports::Port;
 use bp_scripts::Step;
-use bp_shared::{LogWriter, PoolName, Session, SharedPool};
+use bp_shared::{PoolName, Session, SharedPool};
 use bp_workers::Client;
 use std::sync::Wait;
 
-/// A pass that its client holds and the pool does not know is a fault of the run.
-fn as_fault(refusal: Refusal) -> Refusal
-    ensures { result ≡ as_fault refusal }
-{
-    match refusal {
-        Refusal::UnknownPass => Refusal::Disagree,
-        other => other,
-    }
-}
-
-/// Gives a pass back. `Disagree` where the session does not know the pass.
+/// Gives back a pass that the session holds.
 fn unfix_note<N: PoolName, R: Wait>(
     rt: &R,
     pool: &SharedPool<N>,
     session: &mut Session<N>,
     note: PassNote,
-) -> Result<(), Refusal>
+)
+    requires held { is_out note (passes_out session.old.said) ≡ true }
     ensures client { session.new.client ≡ session.old.client }
     ensures before { session.new.before ≡ session.old.before }
-    ensures posted { OnOk result ((note.client ≡ session.old.client) ×
-        (session.new.said ≡ unfix_of note ∷ session.old.said)) }
-    ensures refused { OnErr result ((result ≡ Err Refusal.Disagree) ×
-        (session.new.said ≡ session.old.said)) }
+    ensures seen { session.new.seen ≡ session.old.seen }
+    ensures said { session.new.said ≡ unfix_of note ∷ session.old.said }
 {
     match pool.unfix_draining(rt, session, note.pass()) {
-        Ok(()) => Ok(()),
-        Err((pass, _)) => {
-            pass.note();
-            Err(Refusal::Disagree)
-        }
+        Ok(()) => {}
+        Err((_pass, _)) => unreachable!(),
     }
 }
 
@@ -65,6 +53,7 @@ fn fix<N: PoolName, P: Port, R: Wait>(
     ensures work { DoesWorkSaid P.read_gives P.write_gives client.old.session.said
         client.new.session.said
         client.old.port client.new.port }
+    ensures known { result ≢ Err Refusal.UnknownTicket }
     ensures outcome { StepSaid client.old.session.client (Step.Fix page)
         (outcome_of result) client.old.session.said client.new.session.said }
     ensures held { held.new.passes ≡ held_passes client.new.session.said }
@@ -86,6 +75,7 @@ fn flush<N: PoolName, P: Port, R: Wait>(
     ensures work { DoesWorkSaid P.read_gives P.write_gives client.old.session.said
         client.new.session.said
         client.old.port client.new.port }
+    ensures known { result ≢ Err Refusal.UnknownTicket }
     ensures outcome { StepSaid client.old.session.client (Step.Flush page)
         (outcome_of result) client.old.session.said client.new.session.said }
     ensures held { held_passes client.new.session.said ≡ held_passes client.old.session.said }
@@ -103,6 +93,7 @@ fn discard<N: PoolName, P: Port, R: Wait>(
     requires page_in { page < N.parameters.pages }
     ensures same { Stays client.old.session client.new.session }
     ensures port { client.new.port ≡ client.old.port }
+    ensures known { result ≢ Err Refusal.UnknownTicket }
     ensures outcome { StepSaid client.old.session.client (Step.Discard page)
         (outcome_of result) client.old.session.said client.new.session.said }
     ensures held { held_passes client.new.session.said ≡ held_passes client.old.session.said }
@@ -123,7 +114,7 @@ fn latest<N: PoolName, P: Port>(
     held.latest(client.session.client(), page)
 }
 
-/// `Disagree` where the pool does not know a pass that the client holds.
+/// Looks at the page by the pass that the client took latest.
 fn read<N: PoolName, P: Port, R: Wait>(
     rt: &R,
     pool: &SharedPool<N>,
@@ -134,6 +125,7 @@ fn read<N: PoolName, P: Port, R: Wait>(
     requires held { held.now.passes ≡ held_passes client.old.session.said }
     ensures same { Stays client.old.session client.new.session }
     ensures port { client.new.port ≡ client.old.port }
+    ensures known { result ≢ Err Refusal.UnknownTicket }
     ensures outcome { StepSaid client.old.session.client (Step.Read page)
         (outcome_of result) client.old.session.said client.new.session.said }
     ensures held { held_passes client.new.session.said ≡ held_passes client.old.session.said }
@@ -144,13 +136,10 @@ fn read<N: PoolName, P: Port, R: Wait>(
     let pass = note.pass();
     let read = pool.read_into(rt, &mut client.session, &pass, 0, &mut []);
     pass.note();
-    match read {
-        Ok(()) => Ok(()),
-        Err(refusal) => Err(as_fault(refusal)),
-    }
+    read
 }
 
-/// `Disagree` where the pool does not know a pass that the client holds.
+/// Writes to the page by the pass that the client took latest.
 fn write<N: PoolName, P: Port, R: Wait>(
     rt: &R,
     pool: &SharedPool<N>,
@@ -165,6 +154,7 @@ fn write<N: PoolName, P: Port, R: Wait>(
     requires held { held.now.passes ≡ held_passes client.old.session.said }
     ensures same { Stays client.old.session client.new.session }
     ensures port { client.new.port ≡ client.old.port }
+    ensures known { result ≢ Err Refusal.UnknownTicket }
     ensures outcome { StepSaid client.old.session.client (Step.Write page offset bytes.now lsn)
         (outcome_of result) client.old.session.said client.new.session.said }
     ensures held { held_passes client.new.session.said ≡ held_passes client.old.session.said }
@@ -175,13 +165,10 @@ fn write<N: PoolName, P: Port, R: Wait>(
     let pass = note.pass();
     let written = pool.write_from(rt, &mut client.session, &pass, offset, bytes.bytes(), lsn);
     pass.note();
-    match written {
-        Ok(()) => Ok(()),
-        Err(refusal) => Err(as_fault(refusal)),
-    }
+    written
 }
 
-/// `Disagree` where the numbers of the passes do not rise, or the session can't give the pass back.
+/// Gives back the pass of the page that the client took latest.
 fn unfix<N: PoolName, P: Port, R: Wait>(
     rt: &R,
     pool: &SharedPool<N>,
@@ -189,9 +176,11 @@ fn unfix<N: PoolName, P: Port, R: Wait>(
     held: &mut HeldList,
     page: PageNo,
 ) -> Result<(), Refusal>
+    requires once { GivesEachOnce client.old.session.said }
     requires held { held.old.passes ≡ held_passes client.old.session.said }
     ensures same { Stays client.old.session client.new.session }
     ensures port { client.new.port ≡ client.old.port }
+    ensures known { result ≢ Err Refusal.UnknownTicket }
     ensures outcome { StepSaid client.old.session.client (Step.Unfix page)
         (outcome_of result) client.old.session.said client.new.session.said }
     ensures held { held.new.passes ≡ held_passes client.new.session.said }
@@ -199,10 +188,7 @@ fn unfix<N: PoolName, P: Port, R: Wait>(
     let Some(note) = latest(client, held, page) else {
         return Err(Refusal::UnknownPass);
     };
-    if !held.serials_rise() {
-        return Err(Refusal::Disagree);
-    }
-    unfix_note(rt, pool, &mut client.session, note)?;
+    unfix_note(rt, pool, &mut client.session, note);
     held.take_latest(client.session.client(), page);
     Ok(())
 }
@@ -215,6 +201,7 @@ fn tick<N: PoolName, P: Port, R: Wait>(
 ) -> Result<(), Refusal>
     ensures same { Stays client.old.session client.new.session }
     ensures port { client.new.port ≡ client.old.port }
+    ensures known { result ≢ Err Refusal.UnknownTicket }
     ensures outcome { StepSaid client.old.session.client (Step.Tick n)
         (outcome_of result) client.old.session.said client.new.session.said }
     ensures held { held_passes client.new.session.said ≡ held_passes client.old.session.said }
@@ -229,6 +216,7 @@ fn purge<N: PoolName, P: Port, R: Wait>(
 ) -> Result<(), Refusal>
     ensures same { Stays client.old.session client.new.session }
     ensures port { client.new.port ≡ client.old.port }
+    ensures known { result ≢ Err Refusal.UnknownTicket }
     ensures outcome { StepSaid client.old.session.client Step.Purge
         (outcome_of result) client.old.session.said client.new.session.said }
     ensures held { held_passes client.new.session.said ≡ held_passes client.old.session.said }
@@ -237,23 +225,23 @@ fn purge<N: PoolName, P: Port, R: Wait>(
     Ok(())
 }
 
-/// Makes the call that a step asks for, with the passes that the client holds at hand. A log row raises the mark. Only
-/// client 0 has the log. `UnknownTicket` and `Disagree` are faults of the run: the pool does not know what it gave, or
-/// gave passes whose numbers do not rise. Every other refusal is the row's.
+/// Makes the call that a step asks for, with the passes that the client holds at hand. A log row asks nothing of the
+/// pool. The pool knows what it gave: so every refusal is the row's.
 pub(crate) fn step<N: PoolName, P: Port, R: Wait>(
     rt: &R,
     pool: &SharedPool<N>,
     client: &mut Client<N, P>,
-    log: &mut Option<&mut LogWriter<N>>,
     held: &mut HeldList,
     step: &Step,
 ) -> Result<(), Refusal>
     requires fits { StepFits N.parameters step.now }
+    requires once { GivesEachOnce client.old.session.said }
     requires held { held.old.passes ≡ held_passes client.old.session.said }
     ensures same { Stays client.old.session client.new.session }
     ensures work { StepWork P.read_gives P.write_gives step.now client.old.session.said
         client.new.session.said
         client.old.port client.new.port }
+    ensures known { result ≢ Err Refusal.UnknownTicket }
     ensures outcome { StepSaid client.old.session.client step.now
         (outcome_of result) client.old.session.said client.new.session.said }
     ensures held { held.new.passes ≡ held_passes client.new.session.said }
@@ -272,11 +260,6 @@ pub(crate) fn step<N: PoolName, P: Port, R: Wait>(
         Step::Discard(page) => discard(rt, pool, client, *page),
         Step::Tick(n) => tick(rt, pool, client, *n),
         Step::Purge => purge(rt, pool, client),
-        Step::Log(lsn) => {
-            if let Some(log) = log {
-                log.raise(pool, *lsn);
-            }
-            Ok(())
-        }
+        Step::Log(_) => Ok(()),
     }
 }

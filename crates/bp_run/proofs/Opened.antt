@@ -89,7 +89,7 @@ stopped_at_trace ways bytes_of t bytes ended file h opened same not =
 
 stopped_after : {F P T : Type 0} (ways : Ways F P T) (bytes_of : T → Option (List ℕ)) (t : RunOptions) (bytes : Option (List ℕ)) (ended : Ending) (file : F) (h : Geometry) (rows : List Row)
     → ways.opens t.page_file t.size t.format (Ok file) → h ≡ ways.geometry file → AreRead ways.traces bytes_of t.trace h bytes rows
-    → NotConnected ways file (ports_for t.order rows) ended ⊎ NotReported t.order ended → StopsRun ways bytes_of t bytes ended
+    → NotConnected ways file (ports_for t.order rows) ended ⊎ NotReported ended → StopsRun ways bytes_of t bytes ended
 stopped_after ways bytes_of t bytes ended file h rows opened same read stopped =
     inr (inr (record { file = file; opened = opened; rows = rows; read = subst (λ g. AreRead ways.traces bytes_of t.trace g bytes rows) same read; stopped = stopped }))
 
@@ -101,6 +101,6 @@ stopped_at_ports ways bytes_of t bytes ended file h rows lent opened same are re
 
 pub stopped_in_run : {F P T : Type 0} (ways : Ways F P T) (bytes_of : T → Option (List ℕ)) (t : RunOptions) (bytes : Option (List ℕ)) (result : Result Bool Stop) (file : F) (h : Geometry) (rows : List Row)
     → ways.opens t.page_file t.size t.format (Ok file) → h ≡ ways.geometry file → AreRead ways.traces bytes_of t.trace h bytes rows
-    → IfErr result (Ends (NotReported t.order)) → IfErr result (Ends (StopsRun ways bytes_of t bytes))
+    → IfErr result (Ends NotReported) → IfErr result (Ends (StopsRun ways bytes_of t bytes))
 stopped_in_run ways bytes_of t bytes (Ok ok) file h rows opened same read not = tt
 stopped_in_run ways bytes_of t bytes (Err stop) file h rows opened same read not = stopped_after ways bytes_of t bytes stop.ending file h rows opened same read (inr not)

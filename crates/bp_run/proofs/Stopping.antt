@@ -31,7 +31,6 @@ use Rattle.bp_cli.specs.Ending.{is_help}
 use Rattle.bp_cli.specs.Words.{RunOptions, TraceAt, from_stdin, at_path, fault_in}
 use Rattle.bp_cli.specs.declared.ending.Ending.{Ending}
 use Rattle.bp_cli.specs.declared.ending.Ending.TheVariants as ending
-use Rattle.bp_cli.specs.declared.words.Order.{Order}
 use Rattle.bp_cli.specs.declared.words.Order.TheVariants as order
 use Rattle.bp_run.specs.Opening.{ending_of}
 use Rattle.bp_run.specs.Run.{DoesWords, parameters_for, ports_for}
@@ -40,14 +39,13 @@ use Rattle.bp_run.specs.Ways.{Ways}
 use Rattle.bp_run.specs.Stops.{EndsBy, IsShown, TakesLong, keeps_out, NotConnected, NotRead, NotReported, StopsRun}
 use Rattle.bp_run.specs.Sweep.{NotShown, NotTaken, NotWritten, StopsSweep}
 
--- ---- a run of threads is refused for want of memory, or a mark ahead of the log rows
+-- ---- a run of threads is refused for want of memory
 
-pub memory_or_disagree : {A : Type 0} (c : Parameters) (result : Result A Refusal) (why : Refusal) → IsFit c → result ≡ Err why → RunAnswers c result → NotReported order.Free (ending.RunRefused why)
-memory_or_disagree c (Ok done) why fit is answers = absurd (let no = is in cc)
-memory_or_disagree c (Err refusal.BadSettings) why fit is unfit = absurd (unfit fit)
-memory_or_disagree c (Err refusal.OutOfMemory) why fit is answers = let same : refusal.OutOfMemory ≡ why = cc in inl (ap ending.RunRefused (sym same))
-memory_or_disagree c (Err refusal.Disagree) why fit is answers = let same : refusal.Disagree ≡ why = cc in inr (inr (refl, ap ending.RunRefused (sym same)))
-memory_or_disagree c (Err other) why fit is never = absurd never
+pub wants_memory : {A : Type 0} (c : Parameters) (result : Result A Refusal) (why : Refusal) → IsFit c → result ≡ Err why → RunAnswers c result → NotReported (ending.RunRefused why)
+wants_memory c (Ok done) why fit is answers = absurd (let no = is in cc)
+wants_memory c (Err refusal.BadSettings) why fit is unfit = absurd (unfit fit)
+wants_memory c (Err refusal.OutOfMemory) why fit is answers = let same : refusal.OutOfMemory ≡ why = cc in inl (ap ending.RunRefused (sym same))
+wants_memory c (Err other) why fit is never = absurd never
 
 -- those of a run in either order are fit
 pub free_fits : (t : RunOptions) (g : Geometry) (rows : List Row) → IsRunnable t → All (IsInRange g) rows → IsFit (parameters_for order.Free t g rows)
@@ -68,10 +66,9 @@ not_help (Port Device) = refl
 not_help (Port WrongPage) = refl
 not_help (Port Memory) = refl
 
-no_help_reported : (o : Order) (ended : Ending) → is_help ended ≡ true → NotReported o ended → ⊥
-no_help_reported o ended help (inl is) = (let none = ap is_help is in cc)
-no_help_reported o ended help (inr (inl is)) = (let none = ap is_help is in cc)
-no_help_reported o ended help (inr (inr why)) = (let none = ap is_help why.1 in cc)
+no_help_reported : (ended : Ending) → is_help ended ≡ true → NotReported ended → ⊥
+no_help_reported ended help (inl is) = (let none = ap is_help is in cc)
+no_help_reported ended help (inr is) = (let none = ap is_help is in cc)
 
 no_help_trace : {T : Type 0} (traces : Text → Option T → Type 0) (bytes_of : T → Option (List ℕ)) (at : TraceAt) (g : Geometry) (bytes : Option (List ℕ)) (ended : Ending) → is_help ended ≡ true → NotRead traces bytes_of at g bytes ended → ⊥
 no_help_trace traces bytes_of from_stdin g bytes ended help not = (let none = ap is_help not.said in cc)
@@ -83,9 +80,9 @@ no_help_run ways bytes_of options bytes ended help (inl not) = (let none = ap is
 no_help_run ways bytes_of options bytes ended help (inr (inl at)) = no_help_trace ways.traces bytes_of options.trace (ways.geometry at.file) bytes ended help at.not_read
 no_help_run ways bytes_of options bytes ended help (inr (inr after)) = go after.stopped
   where
-    go : NotConnected ways after.file (ports_for options.order after.rows) ended ⊎ NotReported options.order ended → ⊥
+    go : NotConnected ways after.file (ports_for options.order after.rows) ended ⊎ NotReported ended → ⊥
     go (inl not) = (let none = ap is_help not.said ∙ not_help not.fault in cc)
-    go (inr not) = no_help_reported options.order ended help not
+    go (inr not) = no_help_reported ended help not
 
 no_help_taken : {T : Type 0} (traces : Text → Option T → Type 0) (bytes_of : T → Option (List ℕ)) (at : TraceAt) (column : Option ℕ) (bytes : Option (List ℕ)) (ended : Ending) → is_help ended ≡ true → NotTaken traces bytes_of at column bytes ended → ⊥
 no_help_taken traces bytes_of from_stdin column bytes ended help not = (let none = ap is_help not.said in cc)

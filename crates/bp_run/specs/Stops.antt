@@ -4,7 +4,7 @@ use Rattle.std.specs.Prelude.{◌≡◌, ◌⊎◌, ℕ, Bool, true, false, List
 use Rattle.std.specs.Io.KnownBytes.{Appends}
 use Rattle.clap.specs.Words.{Text}
 use Rattle.bp_page.specs.declared.limits.Geometry.{Geometry}
-use Rattle.bp_page.specs.declared.refusals.Refusal.TheVariants.{BadLength, Disagree, OutOfMemory}
+use Rattle.bp_page.specs.declared.refusals.Refusal.TheVariants.{BadLength, OutOfMemory}
 use Rattle.bp_ports.specs.declared.files.OpenFault.{OpenFault}
 use Rattle.bp_scripts.specs.declared.rows.Row.{Row}
 use Rattle.bp_trace.specs.Script.{Answers, script_of}
@@ -15,8 +15,6 @@ use Rattle.bp_cli.specs.Asked.Asked.{a_run, a_migration, a_sweep, an_explanation
 use Rattle.bp_cli.specs.Decision.{IsDecision}
 use Rattle.bp_cli.specs.declared.ending.Ending.{Ending}
 use Rattle.bp_cli.specs.declared.ending.Ending.TheVariants as ending
-use Rattle.bp_cli.specs.declared.words.Order.{Order}
-use Rattle.bp_cli.specs.declared.words.Order.TheVariants as order
 use Rattle.bp_run.specs.Opening.{ending_of}
 use Rattle.bp_run.specs.PageFile.{IsOpenFault, memory_named}
 use Rattle.bp_run.specs.Sweep.{StopsSweepOf}
@@ -55,13 +53,9 @@ pub record NotConnected {F P T : Type 0} (ways : Ways F P T) (file : F) (clients
   pub cause : IsOpenFault (ways.memory file) (ways.geometry file).size fault
   pub said : ended ≡ ending_of fault
 
--- memory is wanted; of threads, what one of them saw is not what the pool has; or not all of the
--- report was written
-abbrev pub NotReported : Order → Ending → Type 0
-NotReported in_order ended =
-    (ended ≡ ending.RunRefused OutOfMemory)
-    ⊎ ((ended ≡ ending.OutputFailed)
-    ⊎ ((in_order ≡ order.Free) × (ended ≡ ending.RunRefused Disagree)))
+-- memory is wanted, or not all of the report was written
+abbrev pub NotReported : Ending → Type 0
+NotReported ended = (ended ≡ ending.RunRefused OutOfMemory) ⊎ (ended ≡ ending.OutputFailed)
 
 -- the page file was opened, and the trace has no rows
 pub record StopsAtTrace {F P T : Type 0} (ways : Ways F P T) (bytes_of : T → Option (List ℕ))
@@ -79,7 +73,7 @@ pub record StopsAfterRead {F P T : Type 0} (ways : Ways F P T) (bytes_of : T →
   pub rows : List Row
   pub read : AreRead ways.traces bytes_of options.trace (ways.geometry file) bytes rows
   pub stopped : NotConnected ways file (ports_for options.order rows) ended
-      ⊎ NotReported options.order ended
+      ⊎ NotReported ended
 
 -- why a run makes no report
 abbrev pub StopsRun : {F P T : Type 0} → Ways F P T → (T → Option (List ℕ)) → RunOptions → Option (List ℕ)

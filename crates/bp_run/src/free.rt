@@ -56,7 +56,7 @@ fn run_threads<P: Port + Send, R: Threads + Wait + Sync>(
     ensures run { IfOk result (λ run. (after : List P) × IsRun P.read_gives P.write_gives
         (parameters_with config (clients_of rows.items)) (scripts_of rows.items) ports.items
         run.trail.items (lists run.said.items) run.refused.items after) }
-    ensures fault { IfErr result (Ends (NotReported Order.Free)) }
+    ensures fault { IfErr result (Ends NotReported) }
 {
     let clients = client_count(&rows);
     let scripts = match split(alloc, rows, clients) {
@@ -94,7 +94,7 @@ pub(crate) fn run_free<P: Port + Send, R: Threads + Wait + Sync, W: Write>(
         run.now.totals (parameters_for Order.Free (options_of run.now) geometry rows.items)
         ports.items (scripts_of rows.items) all_accepted
         (W.contents out.old) (W.contents out.new)) }
-    ensures fault { IfErr result (Ends (NotReported Order.Free)) }
+    ensures fault { IfErr result (Ends NotReported) }
     ensures kept { IfErr result (λ stop. stop.ending ≢ Ending.OutputFailed
         → out.new ≡ out.old) }
 {

@@ -172,7 +172,7 @@ fn drive_rows<P: Port, R: Wait, W: Write>(
     requires fits { All (RowFits core.old.parameters) rows.now }
     ensures reported { IfOk result (λ ok. Reports P.read_gives P.write_gives totals
         core.old.parameters port.old rows.now ok (W.contents out.old) (W.contents out.new)) }
-    ensures fault { IfErr result (Ends (NotReported Order.Trace)) }
+    ensures fault { IfErr result (Ends NotReported) }
     ensures kept { IfErr result (λ stop. stop.ending ≢ Ending.OutputFailed
         → out.new ≡ out.old) }
 {
@@ -202,7 +202,7 @@ fn run_rows<P: Port, R: Wait, W: Write>(
     ensures reported { IfOk result (λ ok. Reports P.read_gives P.write_gives run.now.totals
         (parameters_for Order.Trace (options_of run.now) (P.geometry_of port.old) rows.now)
         port.old rows.now ok (W.contents out.old) (W.contents out.new)) }
-    ensures fault { IfErr result (Ends (NotReported Order.Trace)) }
+    ensures fault { IfErr result (Ends NotReported) }
     ensures kept { IfErr result (λ stop. stop.ending ≢ Ending.OutputFailed
         → out.new ≡ out.old) }
 {
@@ -335,7 +335,7 @@ fn run_in_order<P: Port + Send, R: Threads + Wait + Sync, W: Write>(
     ensures reported { IfOk result (λ ok. ReportsIn P.read_gives P.write_gives run.now.order
         run.now.totals (parameters_for run.now.order (options_of run.now) geometry rows.items)
         ports.items rows.items ok (W.contents out.old) (W.contents out.new)) }
-    ensures fault { IfErr result (Ends (NotReported run.now.order)) }
+    ensures fault { IfErr result (Ends NotReported) }
     ensures kept { IfErr result (λ stop. stop.ending ≢ Ending.OutputFailed
         → out.new ≡ out.old) }
 {

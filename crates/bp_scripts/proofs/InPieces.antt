@@ -18,7 +18,7 @@ use Rattle.bp_trail.proofs.OfClient.{of_client-append, of_client-hit}
 use Rattle.bp_trail.proofs.Since.{each_before}
 
 -- an end past the place counts nothing, and one at or before it counts one more where all before it did
-stops_there : (ends : List ℕ) (end place : ℕ) → place < end → row_at (ends ++ end ∷ []) place ≡ row_at ends place
+pub stops_there : (ends : List ℕ) (end place : ℕ) → place < end → row_at (ends ++ end ∷ []) place ≡ row_at ends place
 stops_there [] end place past_it = grind arith
 stops_there (x ∷ ends) end place past_it = grind (arith, stops_there ends end place past_it)
 
@@ -30,14 +30,14 @@ reverse-cons : {X : Type 0} (x : X) (xs : List X) → reverse (x ∷ xs) ≡ rev
 reverse-cons x xs = reverse-append (x ∷ []) xs
 
 -- each row has an end
-same_length : (m : Manner) (rows : List Row) (ends : List ℕ) (past : Trail) (refusals : List Refused) → FollowsBy m rows ends past refusals → length ends ≡ length rows
+pub same_length : (m : Manner) (rows : List Row) (ends : List ℕ) (past : Trail) (refusals : List Refused) → FollowsBy m rows ends past refusals → length ends ≡ length rows
 same_length m [] [] past refusals cut = refl
 same_length m [] (end ∷ ends) past refusals cut = absurd cut
 same_length m (row ∷ rows) [] past refusals cut = absurd cut
 same_length m (row ∷ rows) (end ∷ ends) past refusals cut = ap suc (same_length m rows ends cut.before cut.earlier cut.follows)
 
 -- past the last entry, all pieces have ended
-all_ended : (m : Manner) (rows : List Row) (ends : List ℕ) (past : Trail) (refusals : List Refused) (place : ℕ) → FollowsBy m rows ends past refusals → length past ≤ place → row_at (reverse ends) place ≡ length ends
+pub all_ended : (m : Manner) (rows : List Row) (ends : List ℕ) (past : Trail) (refusals : List Refused) (place : ℕ) → FollowsBy m rows ends past refusals → length past ≤ place → row_at (reverse ends) place ≡ length ends
 all_ended m [] [] past refusals place cut after = refl
 all_ended m [] (end ∷ ends) past refusals place cut after = absurd cut
 all_ended m (row ∷ rows) [] past refusals place cut after = absurd cut
@@ -98,7 +98,7 @@ one_sooner g past newer [] older e kept is =
     absurd (true≢false (ap (λ (x : Entry). is_unfix x.call) same ∙ kept))
 one_sooner g past newer (x ∷ rest) older e kept is = record { rest = rest; has = cc }
 
-not_given_back : (past said newer older : Trail) (e : Entry) → GivesBack past said → is_unfix e.call ≡ false → said ≡ newer ++ e ∷ older → Later newer past older e
+pub not_given_back : (past said newer older : Trail) (e : Entry) → GivesBack past said → is_unfix e.call ≡ false → said ≡ newer ++ e ∷ older → Later newer past older e
 not_given_back past said newer older e (none_held none) kept is = record { rest = newer; has = is }
 not_given_back past said newer older e (next g first back) kept is =
     let h = not_given_back (unfix_of g ∷ past) said newer older e back kept is in

@@ -19,9 +19,9 @@ pub fn entry_is_in_the_piece_of_its_row()
         (length older)) e older rows ends past refusals cut }
 {}
 
-/// What `is_within_log` tests is the bound. Where it holds by the cut by which the entries of client 0 follow its
-/// script, each entry of client 0 that is no unfix stands in the piece of a row, and the greatest LSN marked up to and
-/// with that entry is at most the greatest of the log rows before that row.
+/// Where no mark comes before the log rows allow it, by the cut by which the entries of client 0 follow its script,
+/// each entry of client 0 that is no unfix stands in the piece of a row, and the greatest LSN marked up to and with that
+/// entry is at most the greatest of the log rows before that row.
 pub fn marks_are_bounded_row_by_row()
     ensures { (m : Manner) (script : List Row) (trail newer past said : Trail) (e : Entry)
         (refusals : List Refused) (cut : Follows m script said refusals) →

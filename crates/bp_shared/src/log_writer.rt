@@ -11,7 +11,7 @@ use std::marker::{Model, PhantomData};
 /// The log end of the pool's mark. Contracts see the greatest LSN that it raised the mark to, or 0.
 #[derive(Drop)]
 pub struct LogWriter<N: PoolName> {
-    end: LogEnd,
+    pub(crate) end: LogEnd,
     of: PhantomData<N>,
 }
 

@@ -1,7 +1,7 @@
 //! Checkpoints that have seen the write of each record: the log has a receipt, under one lock with it.
 ghost use Rattle.std.specs.Prelude.{◌≡◌, IfOk};
 ghost use Rattle.bp_trail.specs.Recovery.{redo_point};
-ghost use Rattle.tests_workers.specs.Receipts.{RedoMayBegin};
+ghost use Rattle.tests_workers.specs.Receipts.{HasWrites, RedoMayBegin};
 
 use crate::making::{config, expect_lawful, ports};
 use bp_core::{PassNote, RecordingKeeper};
@@ -14,7 +14,7 @@ use bp_workers::{
 use std::process::Abort;
 use std::rt::HostRuntime;
 use std::sync::{Mutex, Wait};
-use std::thread::Parker;
+use std::thread::{Parker, Threads};
 use std::time::Duration;
 use test_support::pools::{fix, unfix_draining};
 
@@ -184,6 +184,18 @@ fn hands<R: Abort + AllocGlobal>(rt: &R) -> Vec<Hand> {
     hands
 }
 
+/// Runs client 0 and three clients that write. The log comes back, and the trail has the write of each of its records.
+fn run_hands<R: Abort + AllocGlobal + Threads + Wait + Sync>(rt: &R) -> (Run<MemPort, Hand>, Log)
+    ensures { HasWrites result.1.last result.0.core.past }
+{
+    let log = Log {
+        last: 0,
+        writers: 3,
+    };
+    let ran = run_sharing_workers(rt, rt.alloc(), config(rt, 4), ports(rt, 4), hands(rt), log);
+    ran.expect(rt, "the run")
+}
+
 /// Asserts that each client did its work, and that the LSN from which redo would begin never falls, and is beyond the
 /// last record in the end.
 fn expect_run<R: Abort + AllocGlobal>(rt: &R, run: &Run<MemPort, Hand>, log: &Log) {
@@ -205,12 +217,7 @@ fn expect_run<R: Abort + AllocGlobal>(rt: &R, run: &Run<MemPort, Hand>, log: &Lo
 #[test]
 fn checkpoints_see_each_record(rt: HostRuntime) {
     let rt = &rt;
-    let log = Log {
-        last: 0,
-        writers: 3,
-    };
-    let ran = run_sharing_workers(rt, rt.alloc(), config(rt, 4), ports(rt, 4), hands(rt), log);
-    let (run, log) = ran.expect(rt, "the run");
+    let (run, log) = run_hands(rt);
     expect_run(rt, &run, &log);
     drop(run);
 }

@@ -40,6 +40,7 @@ impl<N: PartNames + PartCount, K: ListKeeper> PartedPool<N, K> {
     /// `None` where each had none then. Redo of the whole file begins at the lesser of it and the log's end, which is
     /// noted before the call. Ask before the sync, as `SharedPool::redo_from` says.
     pub fn redo_from<R: Wait>(&self, rt: &R, session: &mut PartedSession<N, K>) -> Option<Lsn>
+        ensures client { session.new.client ≡ session.old.client }
         ensures sees { InEachPart session.old session.new (Sees N.parameters N.past) }
         ensures least { IsRedoFromAll N.parts session.new.sessions result }
     {
@@ -61,6 +62,7 @@ impl<N: PartNames + PartCount, K: ListKeeper> PartedPool<N, K> {
         from: u64,
     ) -> Option<PageNo>
         requires part { part < N.parts }
+        ensures client { session.new.client ≡ session.old.client }
         ensures outcome { InPart part session.old session.new (λ old new.
             Sees N.parameters N.past old new
             × FindsUnsaved N.parameters.pages from new.seen result) }
@@ -73,6 +75,7 @@ impl<N: PartNames + PartCount, K: ListKeeper> PartedPool<N, K> {
     /// Returns the counts of one part's replies and pages, as `SharedPool::stats` does.
     pub fn stats<R: Wait>(&self, rt: &R, session: &mut PartedSession<N, K>, part: u8) -> Stats
         requires part { part < N.parts }
+        ensures client { session.new.client ≡ session.old.client }
         ensures outcome { InPart part session.old session.new (λ old new.
             Sees N.parameters N.past old new × AreCounts new.seen result) }
     {
@@ -91,6 +94,7 @@ impl<N: PartNames + PartCount, K: ListKeeper> PartedPool<N, K> {
     ) -> Result<(), NotFlushed>
         requires part { part < N.parts }
         requires stripes { port.old.parts ≡ N.parts }
+        ensures client { session.new.client ≡ session.old.client }
         ensures device { port.new.file.device ≡ port.old.file.device }
         ensures stripes { port.new.parts ≡ port.old.parts }
         ensures outcome { InPart part session.old session.new (λ old new.
@@ -112,6 +116,7 @@ impl<N: PartNames + PartCount, K: ListKeeper> PartedPool<N, K> {
         port: &mut StripedPort<S>,
     ) -> Result<(), (u8, NotFlushed)>
         requires stripes { port.old.parts ≡ N.parts }
+        ensures client { session.new.client ≡ session.old.client }
         ensures device { port.new.file.device ≡ port.old.file.device }
         ensures stripes { port.new.parts ≡ port.old.parts }
         ensures outcome { FlushesAllParts (record {

@@ -1,5 +1,6 @@
 //! Questions to the core under the lock, which it answers of its trail as that is then.
-ghost use Rattle.std.specs.Prelude.{◌≡◌, ◌+◌, ◌^◌, ◌<◌, IfSome, []};
+ghost use Rattle.std.specs.Prelude.{◌≡◌, ◌+◌, ◌^◌, ◌<◌, ◌≤◌, IfSome, []};
+ghost use Rattle.bp_trail.specs.Clock.{durable};
 ghost use Rattle.bp_trail.specs.Saved.{IsRedoFrom};
 ghost use Rattle.bp_core.specs.Counts.{AreCounts};
 ghost use Rattle.bp_core.specs.Unsaved.{FindsUnsaved};
@@ -12,6 +13,7 @@ use crate::receipt::Receipt;
 use crate::session::{Past, Session, Told};
 use bp_core::{PoolCore, Stats};
 use bp_keeper::ListKeeper;
+use bp_mark::{LogEnd, Mark};
 use bp_page::{Lsn, PageNo};
 use bp_session_log::{Book, Line};
 use std::marker::PhantomData;
@@ -65,6 +67,20 @@ impl<N: PartNames, K: ListKeeper> LockedPool<N, K> {
         }
         self.seen
             .write::<PoolCore<K>, Past>(&mut receipt.line, &self.core);
+    }
+
+    /// Shows the session the trail as it is. No mark in it is above what the log end raised.
+    pub(crate) fn show_marks(&mut self, session: &mut Session<N, K>, mark: &Mark, end: &mut LogEnd)
+        requires entered { Enters N.past session.old self.old }
+        requires mark { mark.now ≡ N.mark self.old.part }
+        requires end { end.old.mark ≡ mark.now }
+        ensures sees { Sees N.parameters N.past session.old session.new }
+        ensures core { self.new ≡ self.old }
+        ensures end { end.new ≡ end.old }
+        ensures within { durable session.new.seen ≤ end.new.frontier }
+    {
+        self.show(session);
+        end.bounds(mark, &mut self.reader);
     }
 
     /// Ends a line that is no session's: what was seen by it is the older part of the trail.

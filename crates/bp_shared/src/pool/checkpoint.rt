@@ -2,7 +2,8 @@
 //! of its own. Its answer holds of the trail as the session then saw it: a legal list which has exactly the client's
 //! entries so far, each unfix in its place, and goes on from what the session saw before. When the session ends, the
 //! pool's trail goes on from it. What others had done by then is known by a receipt: `show`.
-ghost use Rattle.std.specs.Prelude.{◌≡◌, ◌+◌, ◌^◌, ◌<◌, IfSome, []};
+ghost use Rattle.std.specs.Prelude.{◌≡◌, ◌+◌, ◌^◌, ◌<◌, ◌≤◌, IfSome, []};
+ghost use Rattle.bp_trail.specs.Clock.{durable};
 ghost use Rattle.bp_trail.specs.Saved.{IsRedoFrom};
 ghost use Rattle.bp_core.specs.Counts.{AreCounts};
 ghost use Rattle.bp_core.specs.Unsaved.{FindsUnsaved};
@@ -10,7 +11,8 @@ ghost use Rattle.bp_shared.specs.Telling.{GoesOnFrom, Sees};
 
 use super::SharedPool;
 use crate::locking::locked;
-use crate::names::PartNames;
+use crate::log_writer::LogWriter;
+use crate::names::{One, PartNames, PoolName};
 use crate::receipt::Receipt;
 use crate::session::Session;
 use bp_core::Stats;
@@ -78,5 +80,23 @@ impl<N: PartNames, K: ListKeeper> SharedPool<N, K> {
     {
         let mut state = self.lock_and_drain(rt, session);
         state.stats(session)
+    }
+}
+
+impl<N: PoolName, K: ListKeeper> SharedPool<One<N>, K> {
+    /// Shows the session the trail as it is: no mark in it is above the LSN that its writer raised the mark to. It takes
+    /// the lock once, and no memory.
+    pub fn show_marks<R: Wait>(
+        &self,
+        rt: &R,
+        session: &mut Session<One<N>, K>,
+        log: &mut LogWriter<N>,
+    )
+        ensures sees { Sees N.parameters N.past session.old session.new }
+        ensures same { log.new ≡ log.old }
+        ensures within { durable session.new.seen ≤ log.new }
+    {
+        let mut state = self.lock_and_drain(rt, session);
+        state.show_marks(session, &self.mark, &mut log.end);
     }
 }

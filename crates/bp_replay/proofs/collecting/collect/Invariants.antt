@@ -8,6 +8,6 @@ use Rattle.bp_replay.proofs.collecting.collect.Given as goal
 
 abbrev pub invariant-loop-one : goal.invariant-loop-one
 invariant-loop-one g l = record {
-  so_far : SoFar l.trail (map left_value l.fn.left.items) (map left_value (into_iter_items l.one-iterator)) (lists l.said.items) l.refused.items l.ports.items;
+  so_far : SoFar (map left_value l.fn.left.items) (map left_value (into_iter_items l.one-iterator)) (lists l.said.items) l.refused.items l.ports.items;
   uncut : All (λ one. one.book.before ≡ []) (into_iter_items l.one-iterator);
 }

@@ -1,11 +1,9 @@
 -- What was added, with the refused rows put in order. No cut was made, so the trail is all entries.
-use Rattle.std.proofs.Common.{◌≡◌, List, [], ◌++◌, reverse, map, length, arith, rules, refl, sym, ap, subst, ◌∙◌}
-use Rattle.std.proofs.lemmas.List.{append-nil, append_cancel_right, reverse-reverse}
+use Rattle.std.proofs.Common.{◌≡◌, List, [], ◌++◌, reverse, length, arith, rules, refl, sym, ap, ◌∙◌}
+use Rattle.std.proofs.lemmas.List.{append-nil, append_cancel_right}
 use Rattle.std.proofs.lemmas.List.Sorted.{IsNonDecreasingBy-from_sort_by_key}
 use Rattle.bp_trail.specs.declared.entries.Entry.{Entry}
 use Rattle.bp_trail.specs.Trail.{Trail}
-use Rattle.bp_replay.specs.Scripts.{lists}
-use Rattle.bp_replay.specs.Players.{left_value, NotAdded, SomeDisagrees, Collected}
 use Rattle.bp_replay.proofs.Adding.{same_reversed}
 use Rattle.bp_replay.proofs.run.joined.Goals as goal
 
@@ -23,16 +21,10 @@ pub returns-clause-room : goal.returns-clause-room
 returns-clause-room g c =
     omega (arith, c.trail.ensures.room, c.into_trail.result.ok, ap length (same_told c.trail.result.now c.into_trail.result.items _ _ c.trail.ensures.entries c.into_trail.ensures.entries))
 
-pub returns-in-Err-clause-refused : goal.returns-in-Err-clause-refused
-returns-in-Err-clause-refused g c =
-    let all = all_told c.trail.result.now c.args.run.core.before c.args.run.core.past c.trail.ensures.entries c.requires.uncut.0 in
-    subst (λ trail. NotAdded (SomeDisagrees trail (map left_value c.args.run.left.items)) c.in-Err.refusal) (sym (ap reverse all ∙ reverse-reverse c.trail.result.now)) c.in-Err.ensures.fault
-
 pub returns-clause-joined : goal.returns-clause-joined
 returns-clause-joined g c = record {
   one_by_one = c.collect.new.refused.items;
-  collected = subst (λ trail. Collected trail (map left_value c.args.run.left.items) (lists c.collect.new.said.items) c.collect.new.refused.items c.collect.new.ports.items)
-      (same_told c.trail.result.now c.into_trail.result.items _ _ c.trail.ensures.entries c.into_trail.ensures.entries) c.in-Ok.ensures.collected;
+  collected = c.in-Ok.ensures.collected;
   same = c.sort_unstable_by_key.ensures.permutation;
   in_order = IsNonDecreasingBy-from_sort_by_key (λ r. r.row) _ c.sort_unstable_by_key.ensures.sorted (λ a r q k. search rules);
 }

@@ -75,11 +75,11 @@ returns-clause-run g c =
     let left = are_left reads writes run.core g.P.Port.geometry_of config.geometry c.in_ok-players.players.items scripts ports run.left.items c.in_ok-players.ensures.players c.in_ok-run.ensures.left in
     let players : vec_len c.in_ok-players.players ≡ vec_len c.args.scripts = omega (arith, many config.geometry c.args.scripts.items c.in_ok-players.players.items c.in_ok-players.ensures.players, c.args.scripts.ok, c.in_ok-players.players.ok) in
     run_all reads writes (parameters_with config (vec_len c.args.scripts)) scripts ports run.core.past (map left_value run.left.items) c.joined.result (some_of c.args.scripts c.requires.clients.0) counted
-    (are_played reads writes run.core g.P.Port.geometry_of config.geometry scripts ports run.left.items counted left)
+    (are_played reads writes run.core g.P.Port.geometry_of config.geometry scripts ports run.left.items counted c.requires.geometry left)
     (subst (λ n. Legal (parameters_with config n) run.core.past) players c.in_ok-run.ensures.legal) c.joined.ensures.own c.joined.ensures.joined
 
 pub returns-clause-room : goal.returns-clause-room
 returns-clause-room g c = rw c.in_ok-run.ensures.parameters at c.joined.ensures.room
 
 pub returns-clause-answers : goal.returns-clause-answers
-returns-clause-answers g c = not_joined (parameters_with c.args.config (vec_len c.args.scripts)) _ c.joined.result (rw c.len-clients.ensures at c.in_ok-check_fit.ensures.fit) c.joined.ensures.refused
+returns-clause-answers g c = not_joined (parameters_with c.args.config (vec_len c.args.scripts)) c.joined.result (rw c.len-clients.ensures at c.in_ok-check_fit.ensures.fit) c.joined.ensures.refused

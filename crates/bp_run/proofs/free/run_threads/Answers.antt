@@ -6,7 +6,7 @@ use Rattle.bp_replay.specs.Scripts.{lists}
 use Rattle.bp_core.specs.Agreement.{parameters_with}
 use Rattle.bp_run.specs.Scripts.{clients_of}
 use Rattle.bp_run.proofs.Splitting.{all_below}
-use Rattle.bp_run.proofs.Stopping.{memory_or_disagree}
+use Rattle.bp_run.proofs.Stopping.{wants_memory}
 use Rattle.bp_run.proofs.Threads.{few_clients, run_of, scripts_are, scripts_fit}
 use Rattle.bp_run.proofs.free.run_threads.Goals as goal
 
@@ -46,5 +46,5 @@ pub returns-in-Err-run_clients-clause-fault : goal.returns-in-Err-run_clients-cl
 returns-in-Err-run_clients-clause-fault g c =
     let is = scripts_are c.args.rows.items c.deref.result.now c.client_count-clients.result (lists c.in-Ok.scripts.items) c.client_count-clients.ensures c.deref.ensures.value c.in-Ok.ensures.scripts in
     let count : clients_of c.args.rows.items ≡ c.in-Ok.scripts.len = omega (arith, is.counted, length-map c.in-Ok.scripts.items (λ v. v.items), c.in-Ok.scripts.ok) in
-    memory_or_disagree (parameters_with c.args.config c.in-Ok.scripts.len) c.run_clients.result c.in-Err-run_clients.refusal
+    wants_memory (parameters_with c.args.config c.in-Ok.scripts.len) c.run_clients.result c.in-Err-run_clients.refusal
     (subst (λ (n : ℕ). IsFit (parameters_with c.args.config n)) count c.requires.fit) c.in-Err-run_clients.is c.run_clients.ensures.answers

@@ -1,4 +1,4 @@
-use Rattle.std.proofs.Common.{◌≡◌, ◌≤◌, IfSome, vec_capacity}
+use Rattle.std.proofs.Common.{◌≤◌, IfSome, vec_capacity}
 use Rattle.bp_ports.specs.Ports.{has_headers}
 use Rattle.bp_run.specs.AnyPort.{AreOf, IsPortTo}
 use Rattle.bp_run.proofs.page_files.file_ports.Given as goal

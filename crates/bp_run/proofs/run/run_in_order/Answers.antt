@@ -1,11 +1,8 @@
 -- Each order has its own run.
-use Rattle.std.proofs.Common.{◌≡◌, ◌<◌, ◌∙◌, sym, ap, subst, arith, length}
-use Rattle.std.specs.Prelude.{IfErr}
+use Rattle.std.proofs.Common.{◌≡◌, ◌<◌, ◌∙◌, ap, arith, length}
 use Rattle.bp_cli.specs.Words.{options_of}
 use Rattle.bp_cli.specs.declared.words.Order.{Order}
-use Rattle.bp_run.specs.Opening.{Ends}
 use Rattle.bp_run.specs.Run.{ports_for}
-use Rattle.bp_run.specs.Stops.{NotReported}
 use Rattle.bp_run.proofs.Opened.{in_free, in_trace, port_is, some_ports}
 use Rattle.bp_run.proofs.run.run_in_order.Goals as goal
 
@@ -20,12 +17,6 @@ returns-in-Trace-clause-reported g c =
     in_trace g.P.Port.read_gives g.P.Port.write_gives c.args.run.now.order (options_of c.args.run.now) c.args.geometry (g.P.Port.geometry_of c.index_mut.result.now) c.args.ports.items c.index_mut.result.now
     c.args.run.now.totals c.args.rows.items c.deref.result.now _ _ c.run_rows.result c.in-Trace.is same c.deref.ensures.value count c.index_mut.ensures.value c.run_rows.ensures.reported
 
-pub returns-in-Trace-clause-fault : goal.returns-in-Trace-clause-fault
-returns-in-Trace-clause-fault g c = subst (λ (o : Order). IfErr c.run_rows.result (Ends (NotReported o))) (sym c.in-Trace.is) c.run_rows.ensures.fault
-
 pub returns-in-Free-clause-reported : goal.returns-in-Free-clause-reported
 returns-in-Free-clause-reported g c =
     in_free g.P.Port.read_gives g.P.Port.write_gives c.args.run.now.order (options_of c.args.run.now) c.args.geometry c.args.ports.items c.args.run.now.totals c.args.rows.items _ _ c.run_free.result c.in-Free.is c.run_free.ensures.reported
-
-pub returns-in-Free-clause-fault : goal.returns-in-Free-clause-fault
-returns-in-Free-clause-fault g c = subst (λ (o : Order). IfErr c.run_free.result (Ends (NotReported o))) (sym c.in-Free.is) c.run_free.ensures.fault

@@ -1,5 +1,5 @@
 -- The status, and what is on the outputs then.
-use Rattle.std.proofs.Common.{◌≡◌, ◌∙◌, inr, arith, subst, sym, ap, ℕ}
+use Rattle.std.proofs.Common.{◌∙◌, inr, subst, ap}
 use Rattle.std.specs.Io.KnownBytes.{Appends}
 use Rattle.clap.specs.Walk.{texts}
 use Rattle.bp_cli.specs.Ending.{message_of}

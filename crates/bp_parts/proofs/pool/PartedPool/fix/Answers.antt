@@ -20,6 +20,6 @@ returns g c =
     let stripes = parts_stay g.S.Store.reads g.S.Store.writes c.index_mut-mine.result.now c.fix.new.session _ _ _ _ c.fix.ensures.work ∙ ap (λ p. p.parts) c.turn_to.ensures in
     let device = c.fix.ensures.port ∙ ap (λ p. p.file.device) c.turn_to.ensures in
     rw (← c.session.view_is, ← c.place-part.ensures.part, ← c.place-part.ensures.page) (elim c.match-fix.branch [
-      | in-Ok w ↦ rw w.result-is (record { device = device; stripes = stripes; outcome = (c.fix.result, (refl, w.in-Ok.is), did) })
-      | in-Err w ↦ rw w.result-is (record { device = device; stripes = stripes; outcome = (c.fix.result, w.in-Err.is, did) })
+      | in-Ok w ↦ rw w.result-is (record { client = refl; part = c.place-part.ensures.few; device = device; stripes = stripes; outcome = (c.fix.result, (refl, w.in-Ok.is), did) })
+      | in-Err w ↦ rw w.result-is (record { client = refl; part = tt; device = device; stripes = stripes; outcome = (c.fix.result, w.in-Err.is, did) })
     ])

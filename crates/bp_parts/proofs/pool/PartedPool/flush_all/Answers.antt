@@ -8,10 +8,10 @@ done_of (Ok x) never = refl
 done_of (Err why) never = absurd (never why refl)
 
 pub loop-part-init : goal.loop-part-init
-loop-part-init g c = record { device = refl; stripes = refl; flushed = none }
+loop-part-init g c = record { client = refl; device = refl; stripes = refl; flushed = none }
 
 pub loop-part-preserved : goal.loop-part-preserved
 loop-part-preserved g c =
     let i = c.loop-part.invariant in
     let e = c.flush_part.ensures in
-    record { device = e.device ∙ i.device; stripes = e.stripes ∙ i.stripes; flushed = part i.flushed (rw (done_of _ c.in_default.not-Err) at e.outcome) }
+    record { client = e.client ∙ i.client; device = e.device ∙ i.device; stripes = e.stripes ∙ i.stripes; flushed = part i.flushed (rw (done_of _ c.in_default.not-Err) at e.outcome) }

@@ -1,5 +1,5 @@
 -- The session of one part did so, and the others are as they were.
-use Rattle.std.proofs.Common.{rules, arith}
+use Rattle.std.proofs.Common.{rules, arith, refl}
 use Rattle.bp_parts.proofs.Setting.{kept_by, in_part, own_at, stays}
 use Rattle.bp_parts.proofs.pool.PartedPool.purge.Goals as goal
 
@@ -14,4 +14,4 @@ invariant_of-session g c =
 
 pub returns : goal.returns
 returns g c =
-    rw (← c.session.view_is) (record { outcome = in_part _ c.args.part _ _ c.index_mut-mine.result.now c.purge.new.session _ c.session.invariant.1 (omega (arith, c.session.invariant.0, c.requires.part)) c.index_mut-mine.ensures.value (record { keeps = c.purge.ensures.keeps; outcome = c.purge.ensures.outcome; room = c.purge.ensures.room; memory = c.purge.ensures.memory }) })
+    rw (← c.session.view_is) (record { client = refl; outcome = in_part _ c.args.part _ _ c.index_mut-mine.result.now c.purge.new.session _ c.session.invariant.1 (omega (arith, c.session.invariant.0, c.requires.part)) c.index_mut-mine.ensures.value (record { keeps = c.purge.ensures.keeps; outcome = c.purge.ensures.outcome; room = c.purge.ensures.room; memory = c.purge.ensures.memory }) })

@@ -1,5 +1,5 @@
 -- One part after the other is asked.
-use Rattle.std.proofs.Common.{arith, sym, ap, subst, ◌≡◌, ◌<◌, length}
+use Rattle.std.proofs.Common.{arith, sym, ap, subst, ◌≡◌, ◌<◌, length, refl}
 use Rattle.bp_shared.specs.Sessions.{SessionValue}
 use Rattle.bp_parts.specs.Redo.{IsRedoFromAll}
 use Rattle.bp_parts.proofs.Setting.{kept_by, own_at}
@@ -36,6 +36,7 @@ returns g c =
     let i = c.loop-part.invariant in
     let all : c.loop-part.part ≡ g.N.PartCount.parts = omega (arith, c.loop-part-test.false, c.loop-part.auto.part-end, c.len-part-end.ensures, c.self.invariant.0) in
     rw (← c.session.view_is) (record {
+      client = i.asked.client_is;
       sees = asks_all _ _ _ _ i.asked (omega (arith, all, c.session.invariant.0));
       least = subst (λ n. IsRedoFromAll n c.loop-part.session-inside.sessions.items c.loop-part.least) all i.least;
     })

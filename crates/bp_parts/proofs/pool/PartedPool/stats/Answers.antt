@@ -1,5 +1,5 @@
 -- The session of one part did so, and the others are as they were.
-use Rattle.std.proofs.Common.{rules, arith, ap}
+use Rattle.std.proofs.Common.{rules, arith, ap, refl}
 use Rattle.bp_shared.specs.Sessions.{SessionValue}
 use Rattle.bp_parts.proofs.Setting.{kept_by, in_part, own_at}
 use Rattle.bp_parts.proofs.pool.PartedPool.stats.Goals as goal
@@ -16,4 +16,4 @@ invariant_of-session g c =
 
 pub returns : goal.returns
 returns g c =
-    rw (← c.session.view_is) (record { outcome = in_part _ c.args.part _ _ c.index_mut-mine.result.now c.stats.new.session _ c.session.invariant.1 (omega (arith, c.session.invariant.0, c.requires.part)) c.index_mut-mine.ensures.value (c.stats.ensures.sees, c.stats.ensures.counts) })
+    rw (← c.session.view_is) (record { client = refl; outcome = in_part _ c.args.part _ _ c.index_mut-mine.result.now c.stats.new.session _ c.session.invariant.1 (omega (arith, c.session.invariant.0, c.requires.part)) c.index_mut-mine.ensures.value (c.stats.ensures.sees, c.stats.ensures.counts) })

@@ -1,5 +1,5 @@
 -- The session of one part did so, and the others are as they were.
-use Rattle.std.proofs.Common.{rules, arith}
+use Rattle.std.proofs.Common.{rules, arith, refl}
 use Rattle.bp_parts.proofs.Setting.{kept_by, in_part, own_at, stays}
 use Rattle.bp_parts.proofs.pool.PartedPool.tick.Goals as goal
 
@@ -14,4 +14,4 @@ invariant_of-session g c =
 
 pub returns : goal.returns
 returns g c =
-    rw (← c.session.view_is) (record { outcome = in_part _ c.args.part _ _ c.index_mut-mine.result.now c.tick.new.session _ c.session.invariant.1 (omega (arith, c.session.invariant.0, c.requires.part)) c.index_mut-mine.ensures.value (record { keeps = c.tick.ensures.keeps; outcome = c.tick.ensures.outcome; room = c.tick.ensures.room; clock_full = c.tick.ensures.clock; memory = c.tick.ensures.memory }) })
+    rw (← c.session.view_is) (record { client = refl; outcome = in_part _ c.args.part _ _ c.index_mut-mine.result.now c.tick.new.session _ c.session.invariant.1 (omega (arith, c.session.invariant.0, c.requires.part)) c.index_mut-mine.ensures.value (record { keeps = c.tick.ensures.keeps; outcome = c.tick.ensures.outcome; room = c.tick.ensures.room; clock_full = c.tick.ensures.clock; memory = c.tick.ensures.memory }) })

@@ -1,5 +1,5 @@
 -- The session of one part did so, and the others are as they were.
-use Rattle.std.proofs.Common.{rules, arith}
+use Rattle.std.proofs.Common.{rules, arith, refl}
 use Rattle.bp_parts.proofs.Setting.{kept_by, in_part, own_at, stays}
 use Rattle.bp_parts.proofs.pool.PartedPool.write_from.Goals as goal
 
@@ -14,4 +14,4 @@ invariant_of-session g c =
 
 pub returns : goal.returns
 returns g c =
-    rw (← c.session.view_is) (record { outcome = in_part _ c.args.pass.now.part _ _ c.index_mut-mine.result.now c.write_from.new.session _ c.session.invariant.1 (omega (arith, c.session.invariant.0, c.requires.part)) c.index_mut-mine.ensures.value (record { keeps = c.write_from.ensures.keeps; stranger = c.write_from.ensures.stranger; unknown = c.write_from.ensures.unknown; room = c.write_from.ensures.room; memory = (λ silent roomy. c.write_from.ensures.memory silent) }, c.write_from.ensures.outcome) })
+    rw (← c.session.view_is) (record { client = refl; outcome = in_part _ c.args.pass.now.part _ _ c.index_mut-mine.result.now c.write_from.new.session _ c.session.invariant.1 (omega (arith, c.session.invariant.0, c.requires.part)) c.index_mut-mine.ensures.value (record { keeps = c.write_from.ensures.keeps; stranger = c.write_from.ensures.stranger; unknown = c.write_from.ensures.unknown; room = c.write_from.ensures.room; memory = (λ silent roomy. c.write_from.ensures.memory silent) }, c.write_from.ensures.outcome) })

@@ -1,12 +1,12 @@
 -- The pass is the newest of its key.
 use Rattle.std.proofs.Common.{◌≡◌, [], ◌∷◌, ◌++◌, true, Some, sym, ap, subst, ◌∙◌, arith, length, if◌then◌else◌}
-use Rattle.std.proofs.lemmas.List.{length-reverse, map-append}
+use Rattle.std.proofs.lemmas.List.{length-reverse}
 use Rattle.std.specs.Prelude.{reverse}
 use Rattle.std.specs.HashMap.{get}
 use Rattle.bp_scripts.specs.Script.{is_pass_of}
 use Rattle.bp_trail.proofs.Counting.{reverse-push}
 use Rattle.bp_replay.specs.declared.held_list.Slot.{Slot}
-use Rattle.bp_replay.specs.HeldLists.{HeldValue, AreLinked, newest_of, passes_in, same_key, rise, serials_in}
+use Rattle.bp_replay.specs.HeldLists.{HeldValue, AreLinked, newest_of, passes_in, same_key}
 use Rattle.bp_replay.proofs.HeldSlots.{passes-append}
 use Rattle.bp_replay.proofs.held_list.HeldList.push.Goals as goal
 
@@ -21,10 +21,6 @@ invariant_of-self c =
           ∙ ap (λ n. if is_pass_of q.0 q.1 c.args.note then Some n else get same_key c.self.inside.latest q) count
           ∙ ap (λ o. if is_pass_of q.0 q.1 c.args.note then Some (length (reverse items)) else o) (c.self.invariant.1 q)
           ∙ ap (newest_of q) (sym turned),
-      c.rises_with-self-inside.ensures
-          ∙ ap (λ ss. rise (serials_in ss ++ c.args.note.serial ∷ [])) c.deref.ensures.value
-          ∙ ap rise (sym (map-append (λ (s : Slot). s.note.serial) items (slot ∷ [])))
-          ∙ ap (λ ss. rise (serials_in ss)) (sym c.push_reserved.ensures.items),
     )
 
 pub returns-clause-passes : goal.returns-clause-passes
@@ -32,9 +28,3 @@ returns-clause-passes c =
     let items = c.self.inside.slots.items in
     let slot : Slot = record { note = c.args.note; is_held = true; previous = c.in-Ok.previous } in
     ap passes_in c.push_reserved.ensures.items ∙ passes-append items (slot ∷ []) ∙ ap (λ (v : HeldValue). v.passes ++ c.args.note ∷ []) c.self.view_is
-
-pub returns-clause-serials : goal.returns-clause-serials
-returns-clause-serials c =
-    let items = c.self.inside.slots.items in
-    let slot : Slot = record { note = c.args.note; is_held = true; previous = c.in-Ok.previous } in
-    ap serials_in c.push_reserved.ensures.items ∙ map-append (λ (s : Slot). s.note.serial) items (slot ∷ []) ∙ ap (λ (v : HeldValue). v.serials ++ c.args.note.serial ∷ []) c.self.view_is

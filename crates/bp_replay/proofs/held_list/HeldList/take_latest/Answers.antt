@@ -1,21 +1,14 @@
 -- The newest slot of the key is marked, and the one before it takes its place in the table.
-use Rattle.std.proofs.Common.{◌≡◌, ℕ, false, Some, refl, sym, ap, ◌∙◌, arith, is_some, if◌then◌else◌, List, get_or}
-use Rattle.std.specs.Prelude.{set}
+use Rattle.std.proofs.Common.{◌≡◌, false, Some, refl, ap, ◌∙◌, arith, is_some, if◌then◌else◌}
 use Rattle.std.specs.HashMap.{get}
-use Rattle.std.proofs.Math.Seq.{map-set_same}
 use Rattle.bp_replay.specs.declared.held_list.Slot.{Slot}
-use Rattle.bp_replay.specs.HeldLists.{HeldValue, same_key, rise, serials_in}
+use Rattle.bp_replay.specs.HeldLists.{HeldValue, same_key}
 use Rattle.bp_replay.proofs.HeldSlots.{marked-links, marked-newest, marked-passes, none-found, note-found, own-place, place-within, stands-at}
-use Rattle.bp_replay.proofs.HeldRising.{serial_of}
 use Rattle.bp_replay.proofs.held_list.HeldList.take_latest.Goals as goal
 
 -- the slot as it is left
 abbrev left : Slot → Slot
 left s = record { note = s.note; is_held = false; previous = s.previous }
-
--- a slot that is marked keeps its number
-serials_stay : (ss : List Slot) (place : ℕ) (s : Slot) → s ≡ get_or ss place s → serials_in (set ss place (left s)) ≡ serials_in ss
-serials_stay ss place s is = map-set_same serial_of ss place (left s) s (ap serial_of is)
 
 pub returns-in_default-clause-note : goal.returns-in_default-clause-note
 returns-in_default-clause-note c =
@@ -41,7 +34,6 @@ invariant_of-self c = (
   marked-links c.self.inside.latest c.self.inside.slots.items c.args.client c.args.page c.number.result c.place_of.result c.self.invariant.1 c.number.ensures c.place_of.ensures c.in-Some.place c.index.result.now (left c.index_mut.result.now) c.in-Some.is c.index.ensures refl c.self.invariant.0,
   marked-newest c.self.inside.latest c.self.inside.slots.items c.args.client c.args.page c.number.result c.place_of.result c.self.invariant.1 c.number.ensures c.place_of.ensures c.in-Some.place c.index.result.now (left c.index_mut.result.now) c.in-Some.is c.index.ensures refl c.self.invariant.0 c.relink.new.latest
       (λ q. c.relink.ensures.places q ∙ ap (λ k. if same_key k q then c.index.result.now.previous else get same_key c.self.inside.latest q) c.key_of.ensures),
-  c.self.invariant.2 ∙ ap rise (sym (serials_stay c.self.inside.slots.items c.in-Some.place c.index_mut.result.now c.index_mut.ensures.value)),
 )
 
 pub returns-clause-note : goal.returns-clause-note
@@ -54,7 +46,3 @@ returns-clause-taken c =
 
 pub returns-clause-room : goal.returns-clause-room
 returns-clause-room c = omega (arith, ap (λ (v : HeldValue). v.room) c.self.view_is, c.relink.ensures.spare)
-
-pub returns-clause-serials : goal.returns-clause-serials
-returns-clause-serials c =
-    serials_stay c.self.inside.slots.items c.in-Some.place c.index_mut.result.now c.index_mut.ensures.value ∙ ap (λ (v : HeldValue). v.serials) c.self.view_is
