@@ -1,6 +1,7 @@
 pub mod Firsts
 pub mod Framing
 pub mod Lives
+pub mod Found
 pub mod LogFiles
 pub mod Moments
 pub mod CommitsRead

@@ -77,6 +77,10 @@ pub data Wipes (size : ℕ) : List FileCall → Type 0 where
   wrote : (good : Bool) → Wipes size (FileCall.Write 0 (replicate size 0) good ∷ [])
   unsynced : Wipes size (FileCall.Sync false ∷ FileCall.Write 0 (replicate size 0) true ∷ [])
 
+-- all of them
+abbrev pub wiped_by : ℕ → List FileCall
+wiped_by size = FileCall.Sync true ∷ FileCall.Write 0 (replicate size 0) true ∷ []
+
 -- a file that was wiped, durably, or why not
 abbrev pub WipesFile : {S : Type 0} → Transfer S → Transfer S → StoreSync S → ℕ → S → Bool → S → Type 0
 WipesFile {S} reads writes syncs size old true new =

@@ -162,6 +162,7 @@ fn commit(
         Err(fault) => return Err(fault.into()),
     }
     table.checkpoint(rt, rt.alloc(), NAME, spare)?;
+    spare.wipe(rt.alloc(), table.pool.port())?;
     println!(rt; "checkpoint {}", number.wrapping_sub(1))?;
     table.commit(rt, rt.alloc(), &made)?;
     Ok(())
@@ -200,6 +201,8 @@ fn live(
     } = opened(rt, words)?;
     let settings = Settings::new(2, 0, 1000)?;
     let mut table = Table::begin(rt.alloc(), port, settings, words.frames, log)?;
+    // The log that was read is in the pages, and no opening is to come back to it.
+    spare.wipe(rt.alloc(), table.pool.port())?;
     let done = commit_all(rt, words, &mut table, &mut spare, last);
     drop(table);
     done

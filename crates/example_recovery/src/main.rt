@@ -119,6 +119,8 @@ fn work(
     commit(rt, table, &[(1, 1, b'a'), (2, 0, b'b')])?;
     commit(rt, table, &[(1, 2, b'c'), (3, 3, b'd')])?;
     table.checkpoint(rt, rt.alloc(), NAME, spare)?;
+    // The next opening is not to come back to the log of before.
+    spare.wipe(rt.alloc(), table.pool.port())?;
     println!(rt;
         "a checkpoint: the log begins at LSN {}",
         table.log.next.saturating_sub(1)

@@ -3,6 +3,7 @@ pub mod Tables
 pub mod Standing
 pub mod Tabling
 pub mod Passes
+pub mod Faults
 pub mod Openings
 pub mod Checkpoints
 pub mod Wholes

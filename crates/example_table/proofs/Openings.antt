@@ -357,7 +357,7 @@ brings-leave tears first (DeviceCall.Write q new false ∷ older) p image (inr h
 
 module _ (tears : Bool) (pages size : ℕ) (wanted seen first left : ℕ → List ℕ) (table newer older left_newer : List ℕ) (begun last : ℕ) (changes : List LogRecord) (is : IsNewer table newer older begun last changes) (settled : SettledLeaves (again_of is) left_newer) where
   -- the newer file has the log that was read
-  newer-has : HasCommits table left_newer begun last changes
+  pub newer-has : HasCommits table left_newer begun last changes
   newer-has =
       let log = log_of table is.has.commits in
       let count = length newer - length (frames begun log) in

@@ -1,11 +1,22 @@
 -- Why a call of a table is refused.
-use Rattle.std.specs.Prelude.{◌≡◌, true, false}
+use Rattle.std.specs.Prelude.{◌≡◌, ◌≢◌, ◌⊎◌, ℕ, ◌+◌, ◌^◌, ◌<◌, ◌≤◌, max, Bool, true, false, List, length, Err}
 use Rattle.bp_core.specs.CoreView.{LacksRoomFor}
+use Rattle.bp_device.specs.Drivers.{IsCaused}
 use Rattle.bp_device.specs.Owned.{OwnedView}
-use Rattle.bp_page.specs.declared.refusals.Refusal.TheVariants.{TrailFull}
+use Rattle.bp_page.specs.declared.refusals.PortFault.{PortFault}
+use Rattle.bp_page.specs.declared.refusals.Refusal.TheVariants.{TrailFull, WriteFailed}
 use Rattle.bp_ports.specs.Files.{StoreSync}
 use Rattle.example_log.specs.declared.log.LogFile.{LogFile}
-use Rattle.example_log.specs.declared.log.LogFault.TheVariants.{Device, Ended}
+use Rattle.bp_trail.specs.declared.ends.NotFlushed.{NotFlushed}
+use Rattle.bp_trail.specs.declared.entries.Call.TheVariants as call
+use Rattle.bp_trail.specs.declared.records.LogRecord.{LogRecord}
+use Rattle.example_log.specs.Commits.{payload_of}
+use Rattle.example_log.specs.Disk.{Syncs}
+use Rattle.example_log.specs.Frames.{frame}
+use Rattle.example_log.specs.LogFiles.{BeginFault}
+use Rattle.example_log.specs.declared.log.LogFault.{LogFault}
+use Rattle.example_log.specs.declared.log.LogFault.TheVariants.{Device, Ended, Memory, OtherSize}
+use Rattle.example_table.specs.Images.{AreLogged}
 use Rattle.example_table.specs.declared.table.TableFault.{TableFault}
 use Rattle.example_table.specs.declared.table.TableFault.TheVariants.{Log, Pages}
 
@@ -17,3 +28,36 @@ pub data DurableFault {S P : Type 0} (syncs : P → StoreSync S) (pool : OwnedVi
   failed : syncs pool.port old.store false new.store → new.is_ended ≡ true
       → DurableFault syncs pool old new (Log Device)
   no_room : LacksRoomFor 1 pool.core → DurableFault syncs pool old new (Pages TrailFull)
+
+-- the log has no LSN left, or no room for a record with this payload
+abbrev pub LacksRoom : {S : Type 0} → LogFile S → List ℕ → Type 0
+LacksRoom log payload =
+    (2 ^ 63 ≤ log.next) ⊎ (log.size < log.end + length (frame log.next payload))
+
+-- so of each record of these changes, which has each as it was asked for, or its page's image: of one
+abbrev pub IsFullFor : {S : Type 0} → ℕ → LogFile S → List LogRecord → Type 0
+IsFullFor size log changes =
+    (made : List LogRecord) × AreLogged size changes made × LacksRoom log (payload_of made)
+
+-- why not all pages were written out and made durable: the flush of one was refused, or the sync failed
+pub data SaveFault {P : Type 0} (page_syncs : Syncs P) (new : OwnedView P) : TableFault → Type 0 where
+  not_flushed : (stop : NotFlushed) → IsCaused (call.Flush stop.page) stop.why new.core
+      → SaveFault page_syncs new (Pages stop.why)
+  not_synced : (before : P) (fault : PortFault) → page_syncs before (Err fault) new.port
+      → SaveFault page_syncs new (Pages WriteFailed)
+
+-- why the log was not begun anew: the table had ended, the files have two sizes, there is no memory, the
+-- commits were not made durable, or the pages, or the log was not begun in the other file
+pub data CheckpointFault {S P : Type 0} (syncs : P → StoreSync S) (page_syncs : Syncs P)
+    (ended : Bool) (old new : OwnedView P) (log spare : LogFile S) (head : List ℕ)
+    : TableFault → Type 0 where
+  had_ended : ended ≡ true → CheckpointFault syncs page_syncs ended old new log spare head (Log Ended)
+  sizes : spare.size ≢ log.size
+      → CheckpointFault syncs page_syncs ended old new log spare head (Log OtherSize)
+  no_memory : CheckpointFault syncs page_syncs ended old new log spare head (Log Memory)
+  not_durable : {why : TableFault} (mid : LogFile S) → DurableFault syncs old log mid why
+      → CheckpointFault syncs page_syncs ended old new log spare head why
+  not_saved : {why : TableFault} → SaveFault page_syncs new why
+      → CheckpointFault syncs page_syncs ended old new log spare head why
+  not_begun : {why : LogFault} → BeginFault spare.size (max log.next 1) head why
+      → CheckpointFault syncs page_syncs ended old new log spare head (Log why)

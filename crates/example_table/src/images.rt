@@ -1,13 +1,16 @@
 //! Full images: the first change of a page since the log was begun is of the whole page, so that redo mends whatever a
 //! crash leaves of the page.
-ghost use Rattle.std.specs.Prelude.{◌≡◌, ◌⊎◌, ◌||◌, ◌+◌, ◌≤◌, ℕ, [], ◌++◌, List, true, false, IfOk, length, reverse, slice_index_or};
+ghost use Rattle.std.specs.Prelude.{◌≡◌, ◌≢◌, ◌⊎◌, ◌||◌, ◌+◌, ◌≤◌, ℕ, [], ◌++◌, List, true, false, IfOk, IfErr, length, reverse, slice_index_or};
 ghost use Rattle.bp_trail.specs.declared.records.LogRecord.{LogRecord as Record};
 ghost use Rattle.bp_trail.specs.Trail.{Trail};
 ghost use Rattle.bp_trail.specs.Images.{held};
 ghost use Rattle.bp_trail.specs.Lists.{some};
 ghost use Rattle.example_log.specs.Commits.{changes_of};
 ghost use Rattle.example_log.specs.Disk.{DeviceCall};
+ghost use Rattle.example_log.specs.LogFiles.{SamePlace};
 ghost use Rattle.example_log.specs.Moments.{pages_in};
+ghost use Rattle.example_log.specs.declared.log.LogFault.TheVariants.{Full};
+ghost use Rattle.example_table.specs.declared.table.TableFault.TheVariants.{Log};
 ghost use Rattle.example_log.specs.Files.{FileCall};
 ghost use Rattle.example_table.specs.Images.{AreImaged, AreWhole, IsWhole, is_of, whole_of as whole_is};
 ghost use Rattle.example_table.specs.Marks.{KeepsMarks};
@@ -65,6 +68,7 @@ fn whole_of(alloc: Global, change: &LogRecord, bytes: &[u8]) -> Result<LogRecord
     ensures whole { IfOk result (λ made. made ≡ whole_is change.now bytes.now) }
     ensures fits { IfOk result (λ _.
         change.now.offset + length change.now.bytes ≤ length bytes.now) }
+    ensures fault { IfErr result (λ why. why ≢ Log Full) }
 {
     let mut image = Image::of(alloc, bytes)?;
     redo_record(change, Lsn::new(0), change.page, &mut image)?;
@@ -107,6 +111,7 @@ impl<S: LogStore<P>, P: Port> Table<S, P> {
             ≡ self.now.pool.core.parameters.size) }
         ensures fits { IfOk result (λ _.
             change.now.offset + length change.now.bytes ≤ self.now.pool.core.parameters.size) }
+        ensures fault { IfErr result (λ why. why ≢ Log Full) }
     {
         match self.pool.page(pass) {
             Some(bytes) => whole_of(alloc, change, bytes),
@@ -134,6 +139,8 @@ impl<S: LogStore<P>, P: Port> Table<S, P> {
             (pages_in g.steps ++ calls) (reverse (changes_of (cut.commits ++ commits))) change.now made) }
         ensures kept { KeepsMarks self.old self.new }
         ensures passes { GivesBack self.old.pool self.new.pool }
+        ensures place { SamePlace self.old.log self.new.log }
+        ensures fault { IfErr result (λ why. why ≢ Log Full) }
     {
         let pass = self.fix_page(rt, change.page)?;
         let made = self.whole_by(alloc, &pass, change);
@@ -164,6 +171,8 @@ impl<S: LogStore<P>, P: Port> Table<S, P> {
             (reverse (changes_of commits)) changes.now made.items) }
         ensures kept { KeepsMarks self.old self.new }
         ensures passes { GivesBack self.old.pool self.new.pool }
+        ensures place { SamePlace self.old.log self.new.log }
+        ensures fault { IfErr result (λ why. why ≢ Log Full) }
     {
         let mut made = Vec::new(alloc);
         for change in changes {

@@ -10,7 +10,7 @@ ghost use Rattle.example_log.specs.Commits.{Kept, changes_of, log_of};
 ghost use Rattle.example_log.specs.Disk.{DeviceCall, Honest, MayBring, MayLeave};
 ghost use Rattle.example_log.specs.Files.{FileCall, FileLeaves, IsSettled, SettledLeaves, failed, synced as synced_bytes, written as written_bytes};
 ghost use Rattle.example_log.specs.Lives.{LogLife, Reopened, TellsTrue};
-ghost use Rattle.example_log.specs.LogFiles.{Wipes};
+ghost use Rattle.example_log.specs.LogFiles.{Wipes, wiped_by};
 ghost use Rattle.example_log.specs.Moments.{AtEach, Step, log_in, pages_in, spare_in};
 ghost use Rattle.example_log.specs.Promise.{MayBeRedone, Recovers};
 ghost use Rattle.example_table.specs.Checkpoints.{IsMoving};
@@ -20,10 +20,10 @@ ghost use Rattle.example_table.specs.Tables.{Cut, Stands, TableRan};
 /// Stop a table that ran so at any moment of its device since its log was begun, by a loss of power or by the end of its process
 /// alone, and openings after it at any moment before they redo a page. What is found of its log, whatever the other file
 /// has from before, are then the first commits, each whole, and no fewer than were synced; and whatever the device has may
-/// be redone, to what all commits before that log, and these, make of the first images. It does nothing: its contract is
-/// the law.
+/// be redone, to what all commits before that log, and these, make of the first images. A log is found (`found`). It does
+/// nothing: its contract is the law.
 pub fn a_crash_is_mended()
-    ensures { (c : Parameters) (tears : Bool) (first left : ℕ → List ℕ)
+    ensures mended { (c : Parameters) (tears : Bool) (first left : ℕ → List ℕ)
         (table file bytes other : List ℕ) (cut : Cut) (start : ℕ) (alive : Bool)
         (past synced : Trail)
         (calls later so_far : List DeviceCall) (log_calls opening_calls : List FileCall)
@@ -40,15 +40,25 @@ pub fn a_crash_is_mended()
         FindsLog table bytes other found last changes →
         Kept start durable commits found last changes × MayBeRedone tears c.size 0 (reverse changes)
         (λ p. redo 0 (reverse (changes_of cut.commits ++ changes)) p (first p)) left }
+    ensures found { (c : Parameters) (table file bytes other : List ℕ) (cut : Cut) (start : ℕ)
+        (alive : Bool) (past synced : Trail) (calls : List DeviceCall)
+        (log_calls opening_calls : List FileCall) (commits : List (List Record))
+        (kept : List (List ℕ)) (durable n : ℕ) (pending : List Record) →
+        TableRan c table cut file start alive past synced calls log_calls commits durable pending →
+        Reopened file start log_calls (log_of table commits) durable opening_calls kept n →
+        FileLeaves file opening_calls bytes → TellsTrue start (synced_bytes file opening_calls)
+        (written_bytes file opening_calls) bytes →
+        BeginsBefore start other → (found last : ℕ) × (changes : List Record)
+        × FindsLog table bytes other found last changes }
 {}
 
 /// Stop a call of a table at any moment, also between its calls of the device and of the log, by a loss of power. `steps`
 /// are these calls as `commit`, `make_durable` and the fixes tell them, in the order in which they were made, and `so_far`
 /// those until then. What is found of the log are then the first of the commits that the call leaves, each whole, and no
-/// fewer than were synced when it came; and whatever the device has may be redone, to what these make. `other` is what the
-/// other file has. It does nothing: its contract is the law.
+/// fewer than were synced when it came; and whatever the device has may be redone, to what these make. A log is found
+/// (`found`). `other` is what the other file has. It does nothing: its contract is the law.
 pub fn a_call_may_be_stopped()
-    ensures { (c : Parameters) (tears : Bool) (first left : ℕ → List ℕ)
+    ensures mended { (c : Parameters) (tears : Bool) (first left : ℕ → List ℕ)
         (table file bytes other : List ℕ) (cut : Cut) (start records found last : ℕ)
         (calls : List DeviceCall) (log_calls : List FileCall) (commits after : List (List Record))
         (changes : List Record) (steps later so_far : List Step) →
@@ -63,6 +73,16 @@ pub fn a_call_may_be_stopped()
         FindsLog table bytes other found last changes →
         Kept start records after found last changes × MayBeRedone tears c.size 0 (reverse changes)
         (λ p. redo 0 (reverse (changes_of cut.commits ++ changes)) p (first p)) left }
+    ensures found { (c : Parameters) (table file bytes other : List ℕ) (cut : Cut)
+        (start records : ℕ) (calls : List DeviceCall) (log_calls : List FileCall)
+        (commits after : List (List Record)) (steps later so_far : List Step) →
+        AtEach (λ made. Stands c table cut file start (pages_in made ++ calls)
+        (log_in made ++ log_calls) commits after records) steps → steps ≡ later ++ so_far →
+        FileLeaves file (log_in so_far ++ log_calls) bytes →
+        TellsTrue start (synced_bytes file (log_in so_far ++ log_calls))
+        (written_bytes file (log_in so_far ++ log_calls)) bytes →
+        BeginsBefore start other → (found last : ℕ) × (changes : List Record)
+        × FindsLog table bytes other found last changes }
 {}
 
 /// Stop a checkpoint at any moment, by a loss of power, also between its calls of the device and of both files: what is
@@ -70,8 +90,9 @@ pub fn a_call_may_be_stopped()
 /// what these make; or redo makes what all commits make (`within`). `steps` are its calls as it tells them.
 ///
 /// Once its pages are synced, whatever of the next log is begun, that is what all commits make of the first images, also
-/// where an opening comes, and ends, while it makes what it read durable (`moving`). When the next log has been begun, and also when a second checkpoint comes, the file of the log before it has
-/// none that begins as late, whatever a crash leaves of it (`follows`). It does nothing: its contract is the law.
+/// where an opening comes, and ends, while it makes what it read durable (`moving`). A log is found at each moment
+/// (`found`). When the next log has been begun, and also when a second checkpoint comes, the file of the log before it has
+/// none that begins as late, whatever a crash leaves of it (`follows`); nor has it any once it is wiped (`wiped`). It does nothing: its contract is the law.
 pub fn a_checkpoint_may_be_stopped()
     ensures moving { (c : Parameters) (tears : Bool) (first left : ℕ → List ℕ)
         (table file other_file bytes other : List ℕ) (cut : Cut) (start : ℕ) (alive : Bool)
@@ -116,6 +137,21 @@ pub fn a_checkpoint_may_be_stopped()
         (λ p. redo 0 (reverse (changes_of cut.commits ++ changes)) p (first p)) left)
         ⊎ MayBeRedone tears c.size 0 (reverse changes)
         (λ p. redo 0 (reverse (changes_of (cut.commits ++ commits))) p (first p)) left }
+    ensures found { (c : Parameters) (table file other_file bytes other : List ℕ) (cut : Cut)
+        (start records : ℕ) (calls : List DeviceCall) (log_calls before : List FileCall)
+        (commits : List (List Record)) (steps later so_far : List Step) →
+        AtEach (IsMoving c table cut file start calls log_calls commits records other_file before)
+        steps → steps ≡ later ++ so_far →
+        FileLeaves file (log_in so_far ++ log_calls) bytes →
+        TellsTrue start (synced_bytes file (log_in so_far ++ log_calls))
+        (written_bytes file (log_in so_far ++ log_calls)) bytes →
+        length (written_bytes other_file before) ≡ length other_file →
+        BeginsBefore start (synced_bytes other_file before) →
+        BeginsBefore start (written_bytes other_file before) →
+        FileLeaves other_file (spare_in so_far ++ before) other →
+        TellsTrue (start + 1 + length commits) (synced_bytes other_file (spare_in so_far ++ before))
+        (written_bytes other_file (spare_in so_far ++ before)) other →
+        (found last : ℕ) × (changes : List Record) × FindsLog table bytes other found last changes }
     ensures follows { (file : List ℕ) (start to : ℕ) (alive : Bool) (calls later : List FileCall)
         (log kept : List (List ℕ)) (durable n : ℕ) → LogLife file start alive calls log durable →
         Reopened file start calls log durable later kept n → start < to →
@@ -123,6 +159,14 @@ pub fn a_checkpoint_may_be_stopped()
         × BeginsBefore to (synced_bytes file later) × BeginsBefore to (written_bytes file later)
         × ((left : List ℕ) → FileLeaves file later left → TellsTrue start (synced_bytes file later)
         (written_bytes file later) left → BeginsBefore to left) }
+    ensures wiped { (file : List ℕ) (before : List FileCall) → failed before ≡ false →
+        length (written_bytes file before) ≡ length file →
+        (failed (wiped_by (length file) ++ before) ≡ false)
+        × (length (written_bytes file (wiped_by (length file) ++ before)) ≡ length file)
+        × ((to : ℕ) → BeginsBefore to (synced_bytes file (wiped_by (length file) ++ before)))
+        × ((to : ℕ) → BeginsBefore to (written_bytes file (wiped_by (length file) ++ before)))
+        × ((to : ℕ) (left : List ℕ) → FileLeaves file (wiped_by (length file) ++ before) left →
+        BeginsBefore to left) }
     ensures good { (file : List ℕ) (start : ℕ) (calls : List FileCall) (log : List (List ℕ))
         (durable : ℕ) → LogLife file start true calls log durable → failed calls ≡ false }
 {}
@@ -163,6 +207,23 @@ pub fn an_opening_may_be_stopped()
         (written_bytes file (spare_in so_far ++ before)) left_older →
         ((pages_in so_far ≡ []) × (spare_in so_far ≡ []))
         ⊎ MayBeOpened tears device.size table left_newer left_older wanted left }
+    ensures found { (tears : Bool) (device : Geometry)
+        (table newer older newer_file file left_newer left_older : List ℕ) (begun last : ℕ)
+        (changes : List Record) (newer_before before : List FileCall)
+        (steps later so_far : List Step) →
+        (is : IsNewer table newer older begun last changes) →
+        AtEach (IsOpening device (again_of is) table changes (last + 1) (length file)) steps →
+        steps ≡ later ++ so_far → length newer_file ≡ length (again_of is) →
+        length (written_bytes newer_file newer_before) ≡ length (again_of is) →
+        FileLeaves newer_file (log_in so_far ++ newer_before) left_newer →
+        failed before ≡ false → length (written_bytes file before) ≡ length file →
+        BeginsBefore begun (synced_bytes file before) →
+        BeginsBefore begun (written_bytes file before) →
+        FileLeaves file (spare_in so_far ++ before) left_older →
+        TellsTrue (last + 1) (synced_bytes file (spare_in so_far ++ before))
+        (written_bytes file (spare_in so_far ++ before)) left_older →
+        ((pages_in so_far ≡ []) × (spare_in so_far ≡ []))
+        ⊎ ((found l : ℕ) × (cs : List Record) × FindsLog table left_newer left_older found l cs) }
     ensures redoing { (tears : Bool) (pages size : ℕ) (wanted seen first left : ℕ → List ℕ)
         (table newer older left_newer left_older : List ℕ) (begun last : ℕ) (changes : List Record)
         (done : Bool) (calls later so_far : List DeviceCall) →

@@ -4,7 +4,7 @@ ghost use Rattle.bp_core.specs.Agreement.{parameters_of};
 ghost use Rattle.bp_core.specs.Outcomes.{Adds, KnowsPass};
 ghost use Rattle.bp_trail.specs.declared.entries.Call.TheVariants.{Mark};
 ghost use Rattle.bp_trail.specs.declared.entries.Reply.TheVariants.{Done};
-ghost use Rattle.example_table.specs.Faults.{DurableFault};
+ghost use Rattle.example_table.specs.Faults.{CheckpointFault, DurableFault, IsFullFor, LacksRoom, SaveFault};
 ghost use Rattle.bp_page.specs.declared.refusals.Refusal.TheVariants.{OutOfPage};
 ghost use Rattle.bp_trail.specs.declared.records.LogRecord.{LogRecord as Record};
 ghost use Rattle.bp_trail.specs.Trail.{Trail};
@@ -14,7 +14,7 @@ ghost use Rattle.example_log.specs.Moments.{pages_in};
 ghost use Rattle.example_log.specs.Files.{FileCall, failed, written};
 ghost use Rattle.example_table.specs.Checkpoints.{Checkpoints, HasSaved};
 ghost use Rattle.example_log.specs.Heads.{head_of as head_is};
-ghost use Rattle.example_log.specs.LogFiles.{IsLogFile};
+ghost use Rattle.example_log.specs.LogFiles.{IsLogFile, SamePlace};
 ghost use Rattle.example_table.specs.Marks.{KeepsMarks};
 ghost use Rattle.example_table.specs.Passes.{AddsPass, GivesBack, KeepsPasses};
 ghost use Rattle.bp_trail.specs.Passes.{passes_out};
@@ -23,7 +23,7 @@ ghost use Rattle.example_table.specs.Images.{AreImaged, FirstsAreFull, is_of};
 ghost use Rattle.bp_trail.specs.Lists.{some};
 ghost use Rattle.example_table.specs.Opening.{AreWithin};
 ghost use Rattle.example_table.specs.TableCalls.{IsTable, LeavesCommit, TableDoes, TableGoes, under};
-ghost use Rattle.example_log.specs.declared.log.LogFault.TheVariants.{Memory, Ended, OtherSize};
+ghost use Rattle.example_log.specs.declared.log.LogFault.TheVariants.{Memory, Ended, Full, OtherSize};
 ghost use Rattle.example_table.specs.declared.table.TableFault.TheVariants.{Log, Pages};
 
 use crate::images::note_images;
@@ -89,8 +89,9 @@ const NO_COMMIT: u64 = 1 << 63;
 
 /// Returns the payload of a commit. `OutOfPage` where a change does not lie within a page of the file.
 fn payload(alloc: Global, device: &Geometry, changes: &[LogRecord]) -> Result<Vec<u8>, TableFault>
-    ensures { IfOk result (λ v. (lsn : ℕ) → (v.items ≡ payload_of (map (under lsn) changes.now))
+    ensures told { IfOk result (λ v. (lsn : ℕ) → (v.items ≡ payload_of (map (under lsn) changes.now))
         × AreChanges lsn (map (under lsn) changes.now)) }
+    ensures fault { IfErr result (λ why. why ≢ Log Full) }
 {
     let mut payload = Vec::new(alloc);
     for change in changes {
@@ -165,6 +166,7 @@ impl<S: LogStore<P>, P: Port> Table<S, P> {
             (DurableFault S.syncs self.old.pool self.old.log self.new.log) }
         ensures kept { KeepsMarks self.old self.new }
         ensures passes { KeepsPasses self.old.pool self.new.pool }
+        ensures place { SamePlace self.old.log self.new.log }
     {
         if self.log.is_ended {
             return Err(TableFault::Log(LogFault::Ended));
@@ -202,6 +204,8 @@ impl<S: LogStore<P>, P: Port> Table<S, P> {
             OnOk result (self.new.log.is_ended ≡ false) }
         ensures kept { KeepsMarks self.old self.new }
         ensures passes { AddsPass self.old.pool result self.new.pool }
+        ensures place { SamePlace self.old.log self.new.log }
+        ensures fault { IfErr result (λ why. why ≢ Log Full) }
     {
         match self.fix(rt, page) {
             Ok(pass) => return Ok(pass),
@@ -229,6 +233,7 @@ impl<S: LogStore<P>, P: Port> Table<S, P> {
             OnOk result (self.new.log.is_ended ≡ false) }
         ensures kept { self.new.imaged.items ≡ self.old.imaged.items }
         ensures passes { GivesBack self.old.pool self.new.pool }
+        ensures fault { IfErr result (λ why. why ≢ Log Full) }
     {
         let pass = self.fix_page(rt, change.page)?;
         let bytes = change.bytes.bytes();
@@ -270,6 +275,8 @@ impl<S: LogStore<P>, P: Port> Table<S, P> {
             (slice_index_or self.old.imaged.items p false ≡ true)
             ⊎ (some (is_of p) changes.now ≡ true) }
         ensures passes { GivesBack self.old.pool self.new.pool }
+        ensures full { IfErr result (λ why. why ≡ Log Full →
+            LacksRoom self.old.log (payload_of changes.now)) }
     {
         if self.log.next >= NO_COMMIT {
             return Err(TableFault::Log(LogFault::Full));
@@ -303,8 +310,8 @@ impl<S: LogStore<P>, P: Port> Table<S, P> {
     ///
     /// `Ended`, where the table or its log has ended, and `OutOfPage` change nothing. If the table has not ended after a
     /// refusal, nothing was committed and it goes on: `Full` where the log has no room for the changes and the pages, or
-    /// the LSN would be 2^63, `Memory`, and as the fix of a page is refused. If it has ended, it is to be opened again, and
-    /// the commit may be found then.
+    /// the LSN would be 2^63, `Memory`, and as the fix of a page is refused. A commit of more pages than the log has room
+    /// for is always `Full`. If it has ended, it is to be opened again, and the commit may be found then.
     pub fn commit<R: Wait>(
         &mut self,
         rt: &R,
@@ -334,6 +341,13 @@ impl<S: LogStore<P>, P: Port> Table<S, P> {
             (start + 1 + length commits) changes.now self.new.is_ended result
             (pages_in g.steps) g.commits }
         ensures passes { GivesBack self.old.pool self.new.pool }
+        ensures full { (table : List ℕ) (cut : Cut) (file : List ℕ) (start records : ℕ)
+            (synced : Trail) (calls : List DeviceCall) (log_calls : List FileCall)
+            (commits : List (List Record)) →
+            IsTable table cut file start synced calls log_calls commits records [] self.old.pool
+            self.old.log → AreImaged self.old.imaged.items (reverse (changes_of commits)) →
+            IfErr result (λ why. why ≡ Log Full →
+            IsFullFor self.old.pool.core.parameters.size self.old.log changes.now) }
     {
         if self.is_ended || self.log.is_ended {
             return Err(TableFault::Log(LogFault::Ended));
@@ -365,6 +379,7 @@ impl<S: LogStore<P>, P: Port> Table<S, P> {
         ensures log { OnOk result (self.new.log ≡ self.old.log) }
         ensures kept { KeepsMarks self.old self.new }
         ensures passes { KeepsPasses self.old.pool self.new.pool }
+        ensures fault { IfErr result (SaveFault P.sync_gives self.new.pool) }
     {
         let flushed = self.pool.flush_all(rt);
         self.pool.core().keeps_the_rules();
@@ -381,7 +396,8 @@ impl<S: LogStore<P>, P: Port> Table<S, P> {
     /// Begins the log anew in the other file, so that the commits until now take no room in it. Before that it makes each
     /// of them durable, and each page. A crash leaves all durable commits, whenever it comes. `table` is the name by which
     /// the table was opened. `spare` is the file that has not the log: after Ok it is the one that had it, for the next
-    /// checkpoint.
+    /// checkpoint. Best wipe it then (`LogFile::wipe`): while it has a log, one lost byte in the head of the one that
+    /// goes on takes `open` back to it, and without a word.
     ///
     /// `Ended`, `OtherSize` where the files of the log have two sizes, and `Memory` before that, change nothing. `Device`
     /// where a file of the log fails, `WriteFailed` where the device does, `Full` where no LSN is left or the file has no
@@ -412,6 +428,9 @@ impl<S: LogStore<P>, P: Port> Table<S, P> {
         ensures sizes { spare.old.size ≢ self.old.log.size → self.old.is_ended ≡ false →
             (result ≡ Err (Log OtherSize)) × (self.new ≡ self.old) × (spare.new ≡ spare.old) }
         ensures passes { KeepsPasses self.old.pool self.new.pool }
+        ensures fault { IfErr result (CheckpointFault S.syncs P.sync_gives self.old.is_ended
+            self.old.pool self.new.pool self.old.log spare.old
+            (head_is self.old.log.size (P.geometry_of self.old.pool.port) table.now)) }
     {
         if self.is_ended {
             return Err(TableFault::Log(LogFault::Ended));

@@ -1,10 +1,15 @@
 use Rattle.example_log.specs.Moments.{log_in, pages_in}
-use Rattle.std.proofs.Common.{◌≡◌, ◌∙◌, ◌+◌, ◌++◌, [], max, refl, sym, ap, true, false, length}
+use Rattle.std.proofs.Common.{◌≡◌, ◌∙◌, ◌+◌, ◌++◌, [], max, refl, sym, ap, subst, ℕ, List, true, false, length}
 use Rattle.example_log.specs.declared.log.LogFile.{LogFile}
+use Rattle.example_log.specs.declared.log.LogFault.TheVariants.{Memory}
+use Rattle.example_log.specs.LogFiles.{BeginFault}
+use Rattle.example_table.specs.declared.table.TableFault.TheVariants.{Log}
+use Rattle.example_table.specs.Faults.{CheckpointFault}
+use Rattle.example_table.specs.Faults.CheckpointFault.{had_ended, sizes, no_memory, not_durable, not_saved, not_begun}
 use Rattle.example_table.specs.Checkpoints.Checkpoints.{stopped}
 use Rattle.example_log.specs.Heads.{head_of}
 use Rattle.example_table.proofs.Checkpoints.{does-begin, does-move, does-not, durable-is}
-use Rattle.example_table.proofs.Openings.{begins-log}
+use Rattle.example_table.proofs.Openings.{begins-log, fault-as}
 use Rattle.example_table.proofs.Tabling.{table-next, table-stays, table-weaken}
 use Rattle.example_table.proofs.Wholes.{none-imaged}
 use Rattle.example_table.proofs.table.Table.checkpoint.Goals as goal
@@ -56,3 +61,29 @@ returns-clause-goes g c = λ cut file other start records synced calls log_calls
 
 pub returns-clause-imaged : goal.returns-clause-imaged
 returns-clause-imaged g c = none-imaged c.fill.new.self.items _ (c.fill.ensures.items (λ y h. h))
+
+pub returns-then-self-clause-fault : goal.returns-then-self-clause-fault
+returns-then-self-clause-fault g c = had_ended c.if-self.true
+
+pub returns-then-spare-self-clause-fault : goal.returns-then-spare-self-clause-fault
+returns-then-spare-self-clause-fault g c = sizes c.if-spare-self.true
+
+pub returns-in_err-head-clause-fault : goal.returns-in_err-head-clause-fault
+returns-in_err-head-clause-fault g c = fault-as c.from_residual.result (Log Memory) (CheckpointFault g.S.LogStore.syncs g.P.Port.sync_gives c.args.self.now.is_ended c.args.self.now.pool c.args.self.now.pool c.args.self.now.log c.args.spare.now (head_of c.args.self.now.log.size (g.P.Port.geometry_of c.args.self.now.pool.port) c.args.table.now)) c.from_residual.ensures.1 no_memory
+
+pub returns-in_err-make_durable-clause-fault : goal.returns-in_err-make_durable-clause-fault
+returns-in_err-make_durable-clause-fault g c =
+    fault-as c.from_residual-in_err-make_durable.result c.in_err-make_durable.field-0.0 (CheckpointFault g.S.LogStore.syncs g.P.Port.sync_gives c.args.self.now.is_ended c.args.self.now.pool c.make_durable.new.self.pool c.args.self.now.log c.args.spare.now (head_of c.args.self.now.log.size (g.P.Port.geometry_of c.args.self.now.pool.port) c.args.table.now)) c.from_residual-in_err-make_durable.ensures.1
+    (not_durable c.make_durable.new.self.log c.in_err-make_durable.ensures.fault)
+
+pub returns-in_err-save_pages-clause-fault : goal.returns-in_err-save_pages-clause-fault
+returns-in_err-save_pages-clause-fault g c =
+    fault-as c.from_residual-in_err-save_pages.result c.in_err-save_pages.field-0.0 (CheckpointFault g.S.LogStore.syncs g.P.Port.sync_gives c.args.self.now.is_ended c.args.self.now.pool c.save_pages.new.self.pool c.args.self.now.log c.args.spare.now (head_of c.args.self.now.log.size (g.P.Port.geometry_of c.args.self.now.pool.port) c.args.table.now)) c.from_residual-in_err-save_pages.ensures.1
+    (not_saved c.in_err-save_pages.ensures.fault)
+
+pub returns-in_err-begin-clause-fault : goal.returns-in_err-begin-clause-fault
+returns-in_err-begin-clause-fault g c =
+    fault-as c.from_residual-in_err-begin.result (Log c.in_err-begin.field-0.0) (CheckpointFault g.S.LogStore.syncs g.P.Port.sync_gives c.args.self.now.is_ended c.args.self.now.pool c.save_pages.new.self.pool c.args.self.now.log c.args.spare.now (head_of c.args.self.now.log.size (g.P.Port.geometry_of c.args.self.now.pool.port) c.args.table.now)) c.from_residual-in_err-begin.ensures.1
+    (not_begun (subst (λ (n : ℕ). BeginFault c.args.spare.now.size n (head_of c.args.self.now.log.size (g.P.Port.geometry_of c.args.self.now.pool.port) c.args.table.now) c.in_err-begin.field-0.0)
+    (c.max.ensures ∙ ap (λ (l : LogFile g.row.S.Denot). max l.next 1) c.in_ok-save_pages.ensures.log ∙ ap (λ (n : ℕ). max n 1) c.in_ok-make_durable.ensures.place.2)
+    (subst (λ (t : List ℕ). BeginFault c.args.spare.now.size c.max.result t c.in_err-begin.field-0.0) (c.deref.ensures.value ∙ c.in_ok-head.ensures ∙ ap (λ d. head_of c.args.self.now.log.size d c.args.table.now) (c.geometry.ensures ∙ ap (λ p. g.P.Port.geometry_of p) c.port.ensures)) c.in_err-begin.ensures.fault)))

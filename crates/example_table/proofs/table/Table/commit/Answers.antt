@@ -11,6 +11,7 @@ use Rattle.example_table.specs.declared.table.TableFault.TheVariants.{Log}
 use Rattle.example_table.specs.Images.{AreImaged, AreWhole, FirstsAreFull, is_of}
 use Rattle.example_table.specs.TableCalls.{LeavesCommit, under}
 use Rattle.example_table.proofs.Tabling.{so-is, so-so, stays-so, then-so}
+use Rattle.example_table.proofs.Faults.{full-after}
 use Rattle.example_table.proofs.Wholes.{commit-makes, imaged-noted, imaged-same, says-none, says-more}
 use Rattle.example_table.proofs.table.Table.commit.Goals as goal
 
@@ -57,3 +58,14 @@ returns-clause-goes g c = λ table cut file start records synced calls log_calls
     images new mid old lsn made commits after e known noted (inl same) = imaged-same new old (reverse (changes_of commits)) (reverse (changes_of after)) (same.1 ∙ e) (ap (λ (x : List (List LogRecord)). reverse (changes_of x)) same.0) known
     images new mid old lsn made commits after e known noted (inr added) =
         subst (λ (x : List (List LogRecord)). AreImaged new (reverse (changes_of x))) (sym added) (imaged-noted mid new lsn made commits (imaged-same mid old (reverse (changes_of commits)) (reverse (changes_of commits)) e refl known) noted)
+
+pub returns-in-Err-clause-full : goal.returns-in-Err-clause-full
+returns-in-Err-clause-full g c = λ table cut file start records synced calls log_calls commits is known full. absurd (c.in-Err.ensures.fault full)
+
+pub returns-clause-full : goal.returns-clause-full
+returns-clause-full g c = λ table cut file start records synced calls log_calls commits is known.
+    (let f = c.in-Ok.ensures.goes table cut file start records synced calls log_calls commits is known in
+    let l = start + 1 + length commits in
+    let made = c.deref.result.now in
+    let whole = subst (AreWhole c.args.self.now.pool.core.parameters.size ((pages_in f.0.steps) ++ calls) (reverse (changes_of (cut.commits ++ commits))) (reverse (changes_of commits)) c.args.changes.now) (sym c.deref.ensures.value) f.1 in
+    full-after c.args.self.now.pool.core.parameters.size c.args.self.now.log c.whole_changes.new.self.log c.args.changes.now made c.commit_whole.result c.in-Ok.ensures.place whole.each c.commit_whole.ensures.full)

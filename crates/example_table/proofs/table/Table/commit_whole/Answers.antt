@@ -8,6 +8,7 @@ use Rattle.example_log.specs.Commits.{AreChanges, changes_of, log_of, payload_of
 use Rattle.example_log.proofs.LogFiles.{err-if, weaken, same-or-ended}
 use Rattle.example_table.specs.TableCalls.{TableGoes, under}
 use Rattle.example_table.proofs.Tabling.{table-stays, table-then, table-weaken, log-appends, log-refuses, pending-next}
+use Rattle.example_table.proofs.Faults.{full-of}
 use Rattle.example_table.proofs.Wholes.{firsts-made}
 use Rattle.example_table.proofs.table.Table.commit_whole.Goals as goal
 
@@ -36,7 +37,7 @@ returns-in-Err-clause-goes g c = λ table cut file start records synced calls lo
       | inl same ↦ subst (λ l. TableGoes g.S.LogStore.reads g.S.LogStore.writes g.S.LogStore.syncs g.P.Port.read_gives g.P.Port.write_gives g.P.Port.sync_gives c.args.self.now.pool c.args.self.now.pool c.args.self.now.log l table cut file start calls log_calls commits records (λ after n left. (((after ≡ commits) × (c.args.self.now.imaged.items ≡ c.args.self.now.imaged.items)) ⊎ (after ≡ commits ++ map (under (start + 1 + length commits)) c.args.changes.now ∷ [])) × (c.append.new.self.is_ended ≡ false → left ≡ []) × (c.append.new.self.is_ended ≡ false → after ≡ commits) × Unit {0})) (sym same)
           (table-stays g.S.LogStore.reads g.S.LogStore.writes g.S.LogStore.syncs g.P.Port.read_gives g.P.Port.write_gives g.P.Port.sync_gives table cut file start synced calls log_calls commits records [] c.args.self.now.pool c.args.self.now.log is _ (inl (refl, refl), (λ e. refl), (λ e. refl), tt))
       | inr ended ↦ (let l = start + 1 + length commits in
-          let told = c.in_ok-payload.ensures l in
+          let told = c.in_ok-payload.ensures.told l in
           log-refuses g.S.LogStore.reads g.S.LogStore.writes g.S.LogStore.syncs g.P.Port.read_gives g.P.Port.write_gives g.P.Port.sync_gives table cut file start synced calls log_calls commits records [] c.args.self.now.pool c.args.self.now.log is c.port-2.result.now c.port-2.ensures c.append.new.self (map (under l) c.args.changes.now) (λ x n. Unit {0}) (λ after n left. (((after ≡ commits) × (c.args.self.now.imaged.items ≡ c.args.self.now.imaged.items)) ⊎ (after ≡ commits ++ map (under (start + 1 + length commits)) c.args.changes.now ∷ [])) × (c.append.new.self.is_ended ≡ false → left ≡ []) × (c.append.new.self.is_ended ≡ false → after ≡ commits) × Unit {0}) (λ yes. absurd (true≢false (sym yes ∙ ap not ended))) refl told.1
           (firsts-made c.args.self.now.pool.core.parameters.size l c.args.changes.now (reverse (changes_of commits)) firsts)
           (weaken (g.S.LogStore.reads c.port-2.result.now) (g.S.LogStore.writes c.port-2.result.now) (g.S.LogStore.syncs c.port-2.result.now) c.args.self.now.log c.append.new.self file start log_calls _ _ (λ x n p. (p.0, tt, either (log_of table commits) c.deref.result.now (payload_of (map (under l) c.args.changes.now)) x (c.deref.ensures.value ∙ told.0) p.2))
@@ -51,7 +52,7 @@ loop-change-init g c = (
   c.note_images.ensures,
   λ table cut file start records synced calls log_calls commits is running firsts.
       (let life = c.in-Ok.ensures.life file start records log_calls (log_of table commits) is.file_is in
-      let told = c.in_ok-payload.ensures c.in-Ok.lsn in
+      let told = c.in_ok-payload.ensures.told c.in-Ok.lsn in
       let lsn-is = count table commits start c.in-Ok.lsn life.is_so.1.0 in (
         lsn-is,
         log-appends g.S.LogStore.reads g.S.LogStore.writes g.S.LogStore.syncs g.P.Port.read_gives g.P.Port.write_gives g.P.Port.sync_gives table cut file start synced calls log_calls commits records [] c.args.self.now.pool c.args.self.now.log is c.port-2.result.now c.port-2.ensures c.append.new.self (map (under c.in-Ok.lsn) c.args.changes.now) _ (λ yes. ap not c.in-Ok.ensures.room.alive) refl (subst (λ (n : ℕ). AreChanges n (map (under c.in-Ok.lsn) c.args.changes.now)) lsn-is told.1)
@@ -104,3 +105,6 @@ returns-in-Err-put-clause-passes g c = λ e. c.put.ensures.passes (c.loop-change
 
 pub returns-clause-passes : goal.returns-clause-passes
 returns-clause-passes g c = c.loop-change.invariant.3
+
+pub returns-in-Err-clause-full : goal.returns-in-Err-clause-full
+returns-in-Err-clause-full g c = λ full. full-of (g.S.LogStore.writes c.port-2.result.now) c.args.self.now.log c.append.new.self c.deref.result.now 0 c.args.changes.now c.in-Err.fault (c.deref.ensures.value ∙ (c.in_ok-payload.ensures.told 0).0) c.in-Err.ensures.fault full

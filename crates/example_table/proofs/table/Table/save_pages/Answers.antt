@@ -2,6 +2,7 @@ use Rattle.std.proofs.Common.{subst, ap, ◌∙◌}
 use Rattle.bp_core.specs.CoreView.{CoreView}
 use Rattle.bp_trail.specs.Legal.{Legal}
 use Rattle.bp_trail.specs.Passes.{passes_out}
+use Rattle.example_table.specs.Faults.SaveFault.{not_flushed, not_synced}
 use Rattle.example_table.proofs.Passes.{all-passes}
 use Rattle.example_table.proofs.Checkpoints.{all-quiet, all-saved, all-synced, stops-flushing, stops-syncing}
 use Rattle.example_table.proofs.table.Table.save_pages.Goals as goal
@@ -29,3 +30,9 @@ returns-in-Err-sync-clause-passes g c = ap (λ (x : CoreView). passes_out x.past
 
 pub returns-clause-passes : goal.returns-clause-passes
 returns-clause-passes g c = ap (λ (x : CoreView). passes_out x.past) c.in_default-sync.ensures.core ∙ all-passes c.args.self.now.pool.core c.flush_all-flushed.new.self.core c.flush_all-flushed.result c.flush_all-flushed.ensures.outcome
+
+pub returns-in-Err-clause-fault : goal.returns-in-Err-clause-fault
+returns-in-Err-clause-fault g c = not_flushed c.in-Err.stop c.in-Err.ensures.cause
+
+pub returns-in-Err-sync-clause-fault : goal.returns-in-Err-sync-clause-fault
+returns-in-Err-sync-clause-fault g c = not_synced c.flush_all-flushed.new.self.port c.in-Err-sync.field-0 c.in-Err-sync.ensures.gives

@@ -21,6 +21,7 @@ loop-change-init g c = (
   refl,
   refl,
   λ e. e,
+  (refl, refl, refl),
 )
 
 pub returns-in_err-whole-clause-goes : goal.returns-in_err-whole-clause-goes
@@ -51,6 +52,7 @@ loop-change-preserved g c = elim c.if-is_known.branch [
     c.loop-change.invariant.1,
     c.loop-change.invariant.2,
     c.loop-change.invariant.3,
+    c.loop-change.invariant.4,
   )
   | else-is_known+in_ok-whole+in_ok-push-2 w ↦ rw (w.self-is, w.made-is) (
     λ table cut file start records synced calls log_calls commits is known.
@@ -66,6 +68,7 @@ loop-change-preserved g c = elim c.if-is_known.branch [
     w.whole.ensures.kept.0 ∙ c.loop-change.invariant.1,
     w.whole.ensures.kept.1 ∙ c.loop-change.invariant.2,
     λ e. w.whole.ensures.passes (c.loop-change.invariant.3 e),
+    (w.whole.ensures.place.0 ∙ c.loop-change.invariant.4.0, w.whole.ensures.place.1 ∙ c.loop-change.invariant.4.1, w.whole.ensures.place.2 ∙ c.loop-change.invariant.4.2),
   )
 ]
 
@@ -88,3 +91,18 @@ returns-in_err-push-2-clause-passes g c = λ e. c.whole.ensures.passes (c.loop-c
 
 pub returns-clause-passes : goal.returns-clause-passes
 returns-clause-passes g c = c.loop-change.invariant.3
+
+pub returns-in_err-copy_of-clause-place : goal.returns-in_err-copy_of-clause-place
+returns-in_err-copy_of-clause-place g c = c.loop-change.invariant.4
+
+pub returns-in_err-push-clause-place : goal.returns-in_err-push-clause-place
+returns-in_err-push-clause-place g c = c.loop-change.invariant.4
+
+pub returns-in_err-whole-clause-place : goal.returns-in_err-whole-clause-place
+returns-in_err-whole-clause-place g c = (c.whole.ensures.place.0 ∙ c.loop-change.invariant.4.0, c.whole.ensures.place.1 ∙ c.loop-change.invariant.4.1, c.whole.ensures.place.2 ∙ c.loop-change.invariant.4.2)
+
+pub returns-in_err-push-2-clause-place : goal.returns-in_err-push-2-clause-place
+returns-in_err-push-2-clause-place g c = (c.whole.ensures.place.0 ∙ c.loop-change.invariant.4.0, c.whole.ensures.place.1 ∙ c.loop-change.invariant.4.1, c.whole.ensures.place.2 ∙ c.loop-change.invariant.4.2)
+
+pub returns-clause-place : goal.returns-clause-place
+returns-clause-place g c = c.loop-change.invariant.4
