@@ -136,7 +136,8 @@ fn joined<P: Port>(
 }
 
 /// Runs the clients of one pool, each in a thread of its own: client c runs `scripts[c]` over `ports[c]`, and gives
-/// back what it holds at the end. Client 0 has the log: a log row raises the durable mark.
+/// back what it holds at the end. Client 0 has the log: a log row raises the durable mark, once client 0 has looked at the
+/// trail, for which it takes the pool's lock.
 ///
 /// It takes 1 to 64 scripts and as many ports, whose pages are those of the configuration. A script has rows of its own
 /// client, of pages of the file and of bytes within a page, and log rows stand in script 0 alone.

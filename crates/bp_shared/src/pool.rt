@@ -394,8 +394,9 @@ impl<N: PartNames, K: ListKeeper> SharedPool<N, K> {
         ensures part { (mutex_guard_value result).part ≡ self.now }
     {
         let mut state = self.of_part(rt, session.part, locked(rt, &self.state));
-        let asked = self.posted.take();
-        state.drain(asked);
+        // The session's own ring is drained with both its ends at hand.
+        let own = 1u64.wrapping_shl(u32::from(session.client()));
+        state.drain(self.posted.take() & !own);
         state.drain_own(session);
         state
     }

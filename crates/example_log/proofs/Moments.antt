@@ -138,3 +138,7 @@ each-of-pages So all f = go [] all refl
     go : (later xs : List DeviceCall) → all ≡ later ++ xs → AtEach So (map OfPages xs)
     go later [] e = f later [] e
     go later (x ∷ xs) e = (f later (x ∷ xs) e, go (later ++ x ∷ []) xs (e ∙ sym (append_assoc later (x ∷ []) xs)))
+
+pub each-page-call : (R : List DeviceCall → Type 0) (calls : List DeviceCall) → AtEach R calls → AtEach (λ so_far. R (pages_in so_far) × (log_in so_far ≡ []) × (spare_in so_far ≡ [])) (map OfPages calls)
+each-page-call R [] h = (h, refl, refl)
+each-page-call R (call ∷ calls) h = let k = of-pages (call ∷ calls) in ((subst R (sym k.0) h.0, k.1, k.2), each-page-call R calls h.1)

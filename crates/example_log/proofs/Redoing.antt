@@ -1,5 +1,5 @@
 -- Why redo may be cut off at any moment, and what it leaves when it is done.
-use Rattle.std.proofs.Common.{◌≡◌, ◌≢◌, inl, inr, refl, sym, ap, subst, ◌∙◌, ℕ, ◌+◌, ◌<◌, ◌≤◌, Bool, true, false, not, ◌&&◌, ◌==◌, List, [], ◌∷◌, ◌++◌, length, arith, length-append}
+use Rattle.std.proofs.Common.{◌≡◌, ◌≢◌, inl, inr, refl, sym, ap, subst, ◌∙◌, ℕ, ◌+◌, ◌<◌, ◌≤◌, Bool, true, false, not, ◌&&◌, ◌||◌, true≢false, ◌==◌, List, [], ◌∷◌, ◌++◌, length, arith, length-append}
 use Rattle.std.specs.Prelude.{Result, Ok, Err}
 use Rattle.std.specs.Bool.{MatchBool}
 use Rattle.std.specs.Result.{IsErr, is_ok}
@@ -11,9 +11,11 @@ use Rattle.bp_trail.specs.Lists.{some}
 use Rattle.bp_trail.specs.Recovery.{AllFit, HasFullImage, put, redo, records_from}
 use Rattle.bp_trail.proofs.Bytes.{length-put}
 use Rattle.bp_trail.proofs.Crashes.{redo-cut_off, redo-whole}
-use Rattle.example_log.specs.Disk.{DeviceCall, Partly, MayBring, MayLeave, Honest, sync_failed, Reads, Writes, Syncs, Did}
+use Rattle.example_log.specs.Disk.{DeviceCall, Partly, MayBring, MayLeave, Honest, is_good_sync, sync_failed, Reads, Writes, Syncs, Did}
 use Rattle.example_log.specs.Disk.DeviceCall.{Read, NotRead, Write, Sync}
-use Rattle.example_log.specs.Promise.{IsMended, MayBeRedone, AtEachMoment, IsRedone, Recovers}
+use Rattle.example_log.specs.Moments.{AtEach}
+use Rattle.example_log.proofs.Moments.{each-append}
+use Rattle.example_log.specs.Promise.{IsMended, MayBeRedone, AtEachMoment, IsRedone, Recovers, RecoversThroughout}
 use Rattle.example_log.specs.Steps.{Begins, Redoes, RedoesEach}
 use Rattle.example_log.specs.Steps.Begins.{anew, read, not_read, no_memory}
 use Rattle.example_log.specs.Steps.Redoes.{no_record, stopped, written}
@@ -255,6 +257,41 @@ done pages size from log calls each = λ tears wanted seen first m l honest. (
   λ yes. synced tears size from log wanted seen m first l pages calls each honest,
 )
 
+-- ---- redo of a device, at each moment
+
+module _ (pages size from : ℕ) (log : List LogRecord) where
+  abbrev pub Then : List DeviceCall → Type 0
+  Then so_far = Recovers pages size from log so_far false
+
+  then-each : (n : ℕ) (calls : List DeviceCall) → RedoesEach size from log n calls → Then calls
+  then-each n calls each = λ tears wanted seen first m l honest. (moments tears size from log wanted first l calls (steps tears size from log wanted seen m n calls each honest), λ no. absurd (cc))
+
+  then-synced : (good : Bool) (n : ℕ) (calls : List DeviceCall) → RedoesEach size from log n calls → Then (Sync good ∷ calls)
+  then-synced good n calls each = λ tears wanted seen first m l honest. (moments tears size from log wanted first l (Sync good ∷ calls) (steps tears size from log wanted seen m n calls each honest), λ no. absurd (cc))
+
+  module _ (p : ℕ) (older : List DeviceCall) (before : RedoesEach size from log p older) where
+    abbrev Behind : List DeviceCall → Type 0
+    Behind so_far = Then (so_far ++ older)
+
+    begun-each : (calls : List DeviceCall) (result : Result (List ℕ) Refusal) → Begins size from log p calls result → AtEach Behind calls
+    begun-each _ _ (anew full long) = then-each p older before
+    begun-each _ _ (read {image = image} long) = (stopped-at pages size from log p (Read p image ∷ []) older before (stopped (read {image = image} long)), then-each p older before)
+    begun-each _ _ (not_read {why = why}) = (stopped-at pages size from log p (NotRead p ∷ []) older before (stopped (not_read {why = why})), then-each p older before)
+    begun-each _ _ no_memory = then-each p older before
+
+    step-whole : (calls : List DeviceCall) (done : Bool) → Redoes size from log p calls done → Behind calls
+    step-whole calls true here = then-each (p + 1) (calls ++ older) (next before here)
+    step-whole calls false here = stopped-at pages size from log p calls older before here
+
+    step-each : (calls : List DeviceCall) (done : Bool) → Redoes size from log p calls done → AtEach Behind calls
+    step-each _ _ (no_record empty) = then-each p older before
+    step-each calls _ (stopped {begun = r} b) = begun-each calls r b
+    step-each _ good (written {calls = calls} {image = image} _ b told fit) = (step-whole (Write p (redo from log p image) good ∷ calls) good (written good b told fit), begun-each calls (Ok image) b)
+
+  each-recovers : (n : ℕ) (calls : List DeviceCall) → RedoesEach size from log n calls → AtEach Then calls
+  each-recovers _ _ no_page = then-each 0 [] no_page
+  each-recovers _ _ (next {p = p} {calls = calls} {older = older} before here) = each-append Then calls older (each-recovers p older before) (step-each p older before calls true here)
+
 -- ---- the functions' answers
 
 pub err-false : {T E : Type 0} (r : Result T E) → IsErr r → false ≡ is_ok r
@@ -293,20 +330,28 @@ module _ {P : Type 0} (reads : Reads P) (writes : Writes P) (syncs : Syncs P) (s
       (step.0 ++ before.0, did-append reads writes syncs old mid new step.0 before.0 before.1 step.1, next before.2 at)
 
   pub each-stopped : (pages s p q : ℕ) (good : Bool) (r : Result (Unit {0}) Refusal) → s ≡ size → q ≡ p → Led old mid (λ calls. RedoesEach size from log p calls) → Led mid new (λ calls. Redoes s from log q calls good) → good ≡ false → IsErr r
-      → Led old new (λ calls. Recovers pages size from log calls (is_ok r))
+      → Led old new (λ calls. RecoversThroughout pages size from log calls (is_ok r))
   each-stopped pages s p q good r same here before step is e =
       let at : Redoes size from log p step.0 false = subst (λ g. Redoes size from log p step.0 g) is (subst (λ n. Redoes size from log n step.0 good) here (subst (λ n. Redoes n from log q step.0 good) same step.2)) in (
         step.0 ++ before.0,
         did-append reads writes syncs old mid new step.0 before.0 before.1 step.1,
-        subst (λ b. Recovers pages size from log (step.0 ++ before.0) b) (err-false r e) (stopped-at pages size from log p step.0 before.0 before.2 at),
+        (
+          subst (λ b. Recovers pages size from log (step.0 ++ before.0) b) (err-false r e) (stopped-at pages size from log p step.0 before.0 before.2 at),
+          each-append (λ so_far. Recovers pages size from log so_far false) step.0 before.0 (each-recovers pages size from log p before.0 before.2) (step-each pages size from log p before.0 before.2 step.0 false at),
+          λ yes. absurd (true≢false (sym yes ∙ sym (err-false r e))),
+        ),
       )
 
   pub all-done : (pages n : ℕ) (result : Result (Unit {0}) PortFault) (good : Bool) → n ≡ pages → Led old mid (λ calls. RedoesEach size from log n calls) → syncs mid result new → good ≡ is_ok result
-      → Led old new (λ calls. Recovers pages size from log calls good)
+      → Led old new (λ calls. RecoversThroughout pages size from log calls good)
   all-done pages n result good here before gave is = (
     Sync good ∷ before.0,
     (mid, before.1, (result, gave, is)),
-    last good (subst (λ k. RedoesEach size from log k before.0) here before.2),
+    (
+      last good (subst (λ k. RedoesEach size from log k before.0) here before.2),
+      (then-synced pages size from log good n before.0 before.2, each-recovers pages size from log n before.0 before.2),
+      λ yes. ap (λ (b : Bool). b || some is_good_sync before.0) yes,
+    ),
   )
     where
       last : (b : Bool) → RedoesEach size from log pages before.0 → Recovers pages size from log (Sync b ∷ before.0) b

@@ -63,6 +63,10 @@ abbrev pub sync_failed : DeviceCall → Bool
 sync_failed (DeviceCall.Sync good) = not good
 sync_failed _ = false
 
+abbrev pub is_good_sync : DeviceCall → Bool
+is_good_sync (DeviceCall.Sync good) = good
+is_good_sync _ = false
+
 -- What a crash may leave of page p: what a read might have brought when the last good sync came,
 -- before which none had failed; or what any write since may have left. The write that is under way
 -- counts too, whatever comes of it

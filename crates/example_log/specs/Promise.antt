@@ -3,7 +3,9 @@ use Rattle.std.specs.Prelude.{◌≡◌, ◌⊎◌, ℕ, ◌<◌, Bool, true, fa
 use Rattle.bp_trail.specs.declared.records.LogRecord.{LogRecord}
 use Rattle.bp_trail.specs.Trail.{Trail}
 use Rattle.bp_trail.specs.Recovery.{HasFullImage, MayHave, redo, records_from}
-use Rattle.example_log.specs.Disk.{DeviceCall, MayBring, MayLeave, Honest}
+use Rattle.bp_trail.specs.Lists.{some}
+use Rattle.example_log.specs.Disk.{DeviceCall, MayBring, MayLeave, Honest, is_good_sync}
+use Rattle.example_log.specs.Moments.{AtEach}
 
 -- page p needs no whole write of its device: none tears, or the log has a full image of it, or redo
 -- does not write it
@@ -44,6 +46,13 @@ Recovers pages size from log calls done =
     → MayBeRedone tears size from log wanted first → Honest tears seen calls
     → AtEachMoment tears size from log wanted first calls
     × (done ≡ true → IsRedone tears pages wanted seen first calls)
+
+-- and so of the calls so far at each moment, as if it had stopped there. It is done by a good sync
+abbrev pub RecoversThroughout : ℕ → ℕ → ℕ → List LogRecord → List DeviceCall → Bool → Type 0
+RecoversThroughout pages size from log calls done =
+    Recovers pages size from log calls done
+    × AtEach (λ so_far. Recovers pages size from log so_far false) calls
+    × (done ≡ true → some is_good_sync calls ≡ true)
 
 -- What a pool leaves of page p where it is stopped: an image that went out whole, or the first one. Or
 -- any bytes, where the log has a full image.

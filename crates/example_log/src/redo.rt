@@ -6,7 +6,7 @@ ghost use Rattle.bp_trail.specs.Trail.{Trail};
 ghost use Rattle.bp_trail.specs.Images.{written_into};
 ghost use Rattle.bp_trail.specs.Recovery.{NeverFall, Stopped, put, records_from, wanted, within};
 ghost use Rattle.example_log.specs.Disk.{DeviceCall, Did};
-ghost use Rattle.example_log.specs.Promise.{IsMended, MayBeRedone, PoolLeaves, Recovers};
+ghost use Rattle.example_log.specs.Promise.{IsMended, MayBeRedone, PoolLeaves, RecoversThroughout};
 ghost use Rattle.example_log.specs.Steps.{Begins, Redoes, Stamped, last_lsn};
 
 use bp_page::{Image, Lsn, PageNo, Refusal};
@@ -121,9 +121,8 @@ pub fn redo_pages<R: Wait, P: Port>(
     ensures same { P.geometry_of port.new ≡ P.geometry_of port.old }
     ensures redone { (calls : List DeviceCall)
         × Did P.read_gives P.write_gives P.sync_gives port.old calls port.new
-        × Recovers (P.geometry_of port.old).pages (P.geometry_of port.old).size from
-        (reverse log.now) calls
-        (is_ok result) }
+        × RecoversThroughout (P.geometry_of port.old).pages (P.geometry_of port.old).size from
+        (reverse log.now) calls (is_ok result) }
 {
     let pages = port.geometry().pages;
     for page in 0..pages {

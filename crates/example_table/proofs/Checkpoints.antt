@@ -1,8 +1,8 @@
 -- Why a checkpoint may be stopped, and what it leaves.
-use Rattle.std.proofs.Common.{◌≡◌, inl, inr, refl, sym, ap, subst, ◌∙◌, ℕ, zero, suc, max, ◌+◌, ◌-◌, ◌<◌, ◌≤◌, nat_lt, Bool, true, false, not, if◌then◌else◌, ◌&&◌, List, [], ◌∷◌, ◌++◌, length, map, take, replicate, reverse, append_assoc, append-nil, arith, length-append}
+use Rattle.std.proofs.Common.{◌≡◌, inl, inr, refl, sym, ap, subst, ◌∙◌, ℕ, zero, suc, max, ◌+◌, ◌-◌, ◌<◌, ◌≤◌, nat_lt, Bool, true, false, not, if◌then◌else◌, ◌&&◌, ◌||◌, List, [], ◌∷◌, ◌++◌, length, map, take, replicate, reverse, append_assoc, append-nil, arith, length-append}
 use Rattle.std.specs.Prelude.{◌⊎◌, Result, Ok, Err}
 use Rattle.std.specs.Result.{IsErr}
-use Rattle.std.proofs.lemmas.Bool.{cases_lt, lt-leb}
+use Rattle.std.proofs.lemmas.Bool.{cases_lt, lt-leb, or_cases}
 use Rattle.std.proofs.lemmas.List.{length-map, reverse-append}
 use Rattle.bp_core.specs.CoreView.{CoreView}
 use Rattle.bp_core.specs.Unsaved.{AreSaved}
@@ -37,11 +37,11 @@ use Rattle.example_table.specs.Checkpoints.{Checkpoints, HasSaved, IsMoving, Mov
 use Rattle.example_table.specs.Checkpoints.Checkpoints.{moving as was_moving, moved}
 use Rattle.example_table.specs.Checkpoints.IsMoving.{staying, moving}
 use Rattle.example_log.specs.Commits.{AreChanges, AreCommits, HasCommits, changes_of, log_of, payload_of}
-use Rattle.example_log.specs.Disk.{DeviceCall, Did, Honest, MayLeave, Reads, Writes, Syncs, sync_failed}
+use Rattle.example_log.specs.Disk.{DeviceCall, Did, Honest, MayLeave, Reads, Writes, Syncs, is_good_sync, sync_failed}
 use Rattle.example_log.specs.Disk.DeviceCall.{Sync}
 use Rattle.example_log.specs.Moments.{AtEach, Step, log_in, pages_in, spare_in}
 use Rattle.example_log.specs.Moments.Step.{OfPages, OfSpare}
-use Rattle.example_log.proofs.Moments.{each-append, each-both, each-map, each-spare, log-more, made-append, made-pages, made-spare, never-spare, of-pages, of-spare, pages-more, spare-append}
+use Rattle.example_log.proofs.Moments.{each-append, each-both, each-map, each-spare, log-more, made-append, made-pages, made-spare, never-spare, of-pages, of-spare, pages-append, pages-more, spare-append}
 use Rattle.example_table.proofs.Standing.{calls-since, each-page, from-earlier}
 use Rattle.example_log.specs.Files.{FileCall, FileDid, FileLeaves, failed, synced as synced_bytes, written as written_bytes}
 use Rattle.example_log.specs.Frames.{frame, frames}
@@ -359,6 +359,7 @@ module _ {S P : Type 0} (reads writes : P → Transfer S) (syncs : P → StoreSy
         file_is = is.file_is;
       };
       saved = λ p. subst (λ (x : CoreView). unsaved x.past p ≡ false) (sym core) (saved p);
+      synced = refl;
     }
       where
         to-all : (b : Bool) → b ≡ false → (if true && not b then mid.core.past else synced) ≡ mid.core.past
@@ -366,6 +367,17 @@ module _ {S P : Type 0} (reads writes : P → Transfer S) (syncs : P → StoreSy
         to-all false e = refl
 
 -- ---- the log moves
+
+some-of : (f : DeviceCall → Bool) (xs ys : List DeviceCall) → some f xs ≡ true → some f (xs ++ ys) ≡ true
+some-of f [] ys h = absurd (cc)
+some-of f (x ∷ xs) ys h = elim (or_cases (f x) (some f xs) h) [
+  | inl here ↦ ap (λ (b : Bool). b || some f (xs ++ ys)) here
+  | inr later ↦ ap (λ (b : Bool). f x || b) (some-of f xs ys later) ∙ or-true (f x)
+]
+  where
+    or-true : (b : Bool) → (b || true) ≡ true
+    or-true true = refl
+    or-true false = refl
 
 module _ {S P : Type 0} (reads writes : P → Transfer S) (syncs : P → StoreSync S) (page_reads : Reads P) (page_writes : Writes P) (page_syncs : Syncs P) (table : List ℕ) (cut : Cut) (file : List ℕ) (start : ℕ) (calls : List DeviceCall) (log_calls : List FileCall) (commits : List (List LogRecord)) (old mid new : OwnedView P) (old_log mid_log : LogFile S) where
   pub durable-is : {records : ℕ} (d : TableGoes reads writes syncs page_reads page_writes page_syncs old mid old_log mid_log table cut file start calls log_calls commits records (λ after n left. (after ≡ commits) × (left ≡ []) × (n ≡ 1 + length commits)))
@@ -464,6 +476,12 @@ module _ {S P : Type 0} (reads writes : P → Transfer S) (syncs : P → StoreSy
       log-then : (so_far : List Step) → log_in so_far ≡ [] → log_in (so_far ++ older) ++ log_calls ≡ log_in d.steps ++ log_calls
       log-then so_far none = log-more so_far older log_calls ∙ ap (λ (t : List FileCall). t ++ (log_in older ++ log_calls)) none ∙ log-older
 
+      pages-then-only : (so_far : List Step) → pages_in so_far ≡ [] → pages_in (so_far ++ older) ≡ h.more ++ pages_in d.steps
+      pages-then-only so_far none = pages-append so_far older ∙ ap (λ (t : List DeviceCall). t ++ pages_in older) none ∙ pages-append (map OfPages h.more) d.steps ∙ ap (λ (t : List DeviceCall). t ++ pages_in d.steps) (of-pages h.more).0
+
+      has-synced : some is_good_sync (h.more ++ pages_in d.steps) ≡ true
+      has-synced = some-of is_good_sync h.more (pages_in d.steps) h.synced
+
       none-older : spare_in older ≡ []
       none-older = spare-append (map OfPages h.more) d.steps ∙ ap (λ (t : List FileCall). t ++ spare_in d.steps) (of-pages h.more).2 ∙ d.no_spare
 
@@ -479,6 +497,7 @@ module _ {S P : Type 0} (reads writes : P → Transfer S) (syncs : P → StoreSy
           (subst (λ (fs : List FileCall). TableRan old.core.parameters table cut file start (not mid_log.is_ended) new.core.past new.core.past (h.more ++ (pages_in d.steps ++ calls)) fs commits (1 + length commits) []) (sym (log-then so_far s.2))
           (subst (λ (c : Parameters). TableRan c table cut file start (not mid_log.is_ended) new.core.past new.core.past (h.more ++ (pages_in d.steps ++ calls)) (log_in d.steps ++ log_calls) commits (1 + length commits) []) as_before h.is.ran)))
           h.saved
+          (ap (some is_good_sync) (pages-then-only so_far s.1) ∙ has-synced)
           (subst (λ (fs : List FileCall). Beginning other (start + 1 + length commits) table before (fs ++ before)) (sym (spare-then so_far)) s.0))
           (map OfSpare begun) (each-spare (λ so_far. Beginning other (start + 1 + length commits) table before (so_far ++ before)) begun beginning)
 

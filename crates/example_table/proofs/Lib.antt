@@ -2,6 +2,7 @@ pub mod PoolLives
 pub mod Tables
 pub mod Standing
 pub mod Tabling
+pub mod Passes
 pub mod Openings
 pub mod Checkpoints
 pub mod Wholes

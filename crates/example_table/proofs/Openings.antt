@@ -19,7 +19,7 @@ use Rattle.bp_trail.specs.Recovery.{put, wanted as wants}
 use Rattle.example_log.specs.declared.log.LogFile.{LogFile}
 use Rattle.example_table.specs.declared.table.TableFault.{TableFault}
 use Rattle.example_log.specs.Commits.{AreCommits, HasCommits, changes_of, log_of, payload_of}
-use Rattle.example_log.specs.Disk.{DeviceCall, Did, Reads, Writes, Syncs, Honest, MayBring, MayLeave, Partly, sync_failed}
+use Rattle.example_log.specs.Disk.{DeviceCall, Did, Reads, Writes, Syncs, Honest, MayBring, MayLeave, Partly, is_good_sync, sync_failed}
 use Rattle.bp_trail.specs.Lists.{some}
 use Rattle.example_log.specs.Files.{FileCall, FileDid, FileLeaves, IsSettled, SettledLeaves, Unsure, failed, settles, synced, written}
 use Rattle.example_log.specs.Files.FileCall.{Read, Write, Sync}
@@ -32,15 +32,15 @@ use Rattle.example_log.specs.LogFiles.BeginsBy.{wiping as by_wiping, wiped as by
 use Rattle.example_log.specs.Lives.LogLife.{wiped as was_wiped, appended, synced as was_synced, unsynced as not_synced}
 use Rattle.example_log.specs.Moments.{AtEach, Made, Step, log_in, pages_in, spare_in}
 use Rattle.example_log.specs.Moments.Step.{OfPages, OfLog, OfSpare}
-use Rattle.example_log.proofs.Moments.{each-append, each-map, each-of-log, each-of-pages, each-spare, log-append, made-append, made-log, made-pages, made-spare, of-log, of-pages, of-spare, pages-append, spare-append}
+use Rattle.example_log.proofs.Moments.{each-append, each-map, each-of-log, each-page-call, each-spare, log-append, made-append, made-log, made-pages, made-spare, of-log, of-pages, of-spare, pages-append, spare-append}
 use Rattle.example_log.proofs.LogFiles.{each-by}
 use Rattle.example_table.specs.Opening.IsOpening.{settling, redoing as redoing_it, beginning as beginning_it}
 use Rattle.example_table.specs.Opening.MovesLog.{unsettled, stopped, moved}
 use Rattle.example_log.specs.LogFiles.IsUnread.{no_memory, failed as failed_read}
 use Rattle.example_log.specs.LogFiles.Wipes.{nothing, wrote, unsynced}
-use Rattle.example_table.specs.Opening.{AreWithin, Beginning, BeginsBefore, BeginsLog, CreatesLog, EmptiesFile, IsEmptied, FindsLog, Found, IsNewer, IsInOrder, IsOnlyRead, IsOpening, MayBeOpened, MoveFault, Moves, MovesLog, Redid, again_of}
+use Rattle.example_table.specs.Opening.{AreWithin, Beginning, BeginsBefore, BeginsLog, CreatesLog, EmptiesFile, IsEmptied, FindsLog, Found, IsNewer, IsInOrder, IsOnlyRead, IsOpening, MayBeOpened, MoveFault, Moves, MovesLog, again_of}
 use Rattle.example_table.specs.Opening.Beginning.{wiping, begun as was_begun}
-use Rattle.example_log.specs.Promise.{MayBeRedone, Recovers}
+use Rattle.example_log.specs.Promise.{MayBeRedone, Recovers, RecoversThroughout}
 use Rattle.example_log.proofs.CommitsRead.{head-is, head-same, payload-same, whole-commits}
 use Rattle.example_log.proofs.Framing.{frame-same, zeros-none}
 use Rattle.example_log.proofs.Lives.{life-is, front-is, next, remains}
@@ -443,14 +443,20 @@ found device table newer older pages size first last other_first changes mid has
   same_head = λ lsn payload rest fit e. (other lsn payload rest fit e).1;
 }
 
+-- these were redone; or some pages of them
+pub record Redid {P : Type 0} (reads : Reads P) (writes : Writes P) (syncs : Syncs P) (device : Geometry) (changes : List LogRecord) (old : P) (done : Bool) (new : P) : Type 0 where
+  pub calls : List DeviceCall
+  pub did : Did reads writes syncs old calls new
+  pub recovers : RecoversThroughout device.pages device.size 0 (reverse changes) calls done
+
 pub redid : {P : Type 0} (reads : Reads P) (writes : Writes P) (syncs : Syncs P) (device : Geometry) (changes mid : List LogRecord) (from : ℕ) (old new : P) (done : Bool) → from ≡ 0 → mid ≡ changes
-    → (calls : List DeviceCall) × Did reads writes syncs old calls new × Recovers device.pages device.size from (reverse mid) calls done → Redid reads writes syncs device changes old done new
+    → (calls : List DeviceCall) × Did reads writes syncs old calls new × RecoversThroughout device.pages device.size from (reverse mid) calls done → Redid reads writes syncs device changes old done new
 redid reads writes syncs device changes mid from old new done none same h = record {
   calls = h.0;
   did = h.1;
   recovers =
-      subst (λ (n : ℕ). Recovers device.pages device.size n (reverse changes) h.0 done) none
-      (subst (λ (rs : List LogRecord). Recovers device.pages device.size from (reverse rs) h.0 done) same h.2);
+      subst (λ (n : ℕ). RecoversThroughout device.pages device.size n (reverse changes) h.0 done) none
+      (subst (λ (rs : List LogRecord). RecoversThroughout device.pages device.size from (reverse rs) h.0 done) same h.2);
 }
 
 -- the other log begins as late
@@ -518,10 +524,20 @@ module _ {S P : Type 0} (reads writes : P → Transfer S) (syncs : P → StoreSy
     whole-settled : (cs : List FileCall) → cs ≡ calls → Settles (again_of f.is_newer) cs true
     whole-settled cs e = subst (λ (b : Bool). Settles (again_of f.is_newer) cs b) well (subst (λ (fs : List FileCall). Settles (again_of f.is_newer) fs good) (sym e) settled)
 
+    pages-with : (so_far : List Step) → pages_in (so_far ++ map OfLog calls) ≡ pages_in so_far
+    pages-with so_far = pages-append so_far (map OfLog calls) ∙ ap (λ (t : List DeviceCall). pages_in so_far ++ t) (of-log calls).0 ∙ append-nil (pages_in so_far)
+
+    log-with : (so_far : List Step) → log_in so_far ≡ [] → log_in (so_far ++ map OfLog calls) ≡ calls
+    log-with so_far none = log-append so_far (map OfLog calls) ∙ ap (λ (t : List FileCall). t ++ log_in (map OfLog calls)) none ∙ (of-log calls).1
+
+    spare-with : (so_far : List Step) → spare_in so_far ≡ [] → spare_in (so_far ++ map OfLog calls) ≡ []
+    spare-with so_far none = spare-append so_far (map OfLog calls) ∙ ap (λ (t : List FileCall). t ++ spare_in (map OfLog calls)) none ∙ (of-log calls).2
+
     redo-each : AtEach (λ so_far. Opening (so_far ++ map OfLog calls)) (map OfPages r.calls)
     redo-each =
-        each-of-pages (λ so_far. Opening (so_far ++ map OfLog calls)) r.calls
-        (λ later so_far e. redoing_it later (spare-are so_far) (whole-settled (log_in (map OfPages so_far ++ map OfLog calls)) (log-are so_far)) r.recovers (e ∙ ap (λ (t : List DeviceCall). later ++ t) (sym (pages-are so_far))))
+        each-map (λ so_far. Recovers device.pages device.size 0 (reverse f.changes) (pages_in so_far) false × (log_in so_far ≡ []) × (spare_in so_far ≡ [])) (λ so_far. Opening (so_far ++ map OfLog calls))
+        (λ so_far s. redoing_it (spare-with so_far s.2) (whole-settled (log_in (so_far ++ map OfLog calls)) (log-with so_far s.1)) (subst (λ (cs : List DeviceCall). Recovers device.pages device.size 0 (reverse f.changes) cs false) (sym (pages-with so_far)) s.0))
+        (map OfPages r.calls) (each-page-call (λ so_far. Recovers device.pages device.size 0 (reverse f.changes) so_far false) r.calls r.recovers.1)
 
     redo-did : Made page_reads page_writes page_syncs reads writes syncs (record { port = old; log = old_newer.store; spare = old_older.store }) (map OfPages r.calls ++ map OfLog calls) (record { port = new; log = new_newer.store; spare = old_older.store })
     redo-did =
@@ -535,14 +551,14 @@ module _ {S P : Type 0} (reads writes : P → Transfer S) (syncs : P → StoreSy
     unfolding redo-order
     was-stopped why =
         stopped f done why redo-order (spare-are r.calls) (whole-settled (log_in (map OfPages r.calls ++ map OfLog calls)) (log-are r.calls))
-        (subst (λ (cs : List DeviceCall). Recovers device.pages device.size 0 (reverse f.changes) cs done) (sym (pages-are r.calls)) r.recovers)
+        (subst (λ (cs : List DeviceCall). Recovers device.pages device.size 0 (reverse f.changes) cs done) (sym (pages-are r.calls)) r.recovers.0)
 
     module _ (all_done : done ≡ true) (new_older : LogFile S) (is_begun : Bool) (b : Begins (reads new) (writes new) (syncs new) old_older new_older (f.last + 1) table is_begun) where
       abbrev since : List Step
       since = map OfPages r.calls ++ map OfLog calls
 
       whole-redone : (cs : List DeviceCall) → cs ≡ r.calls → Recovers device.pages device.size 0 (reverse f.changes) cs true
-      whole-redone cs e = subst (λ (d : Bool). Recovers device.pages device.size 0 (reverse f.changes) cs d) all_done (subst (λ (xs : List DeviceCall). Recovers device.pages device.size 0 (reverse f.changes) xs done) (sym e) r.recovers)
+      whole-redone cs e = subst (λ (d : Bool). Recovers device.pages device.size 0 (reverse f.changes) cs d) all_done (subst (λ (xs : List DeviceCall). Recovers device.pages device.size 0 (reverse f.changes) xs done) (sym e) r.recovers.0)
 
       pages-then : (so_far : List Step) → pages_in so_far ≡ [] → pages_in (so_far ++ since) ≡ r.calls
       pages-then so_far none = pages-append so_far since ∙ ap (λ (t : List DeviceCall). t ++ pages_in since) none ∙ pages-are r.calls
@@ -556,7 +572,7 @@ module _ {S P : Type 0} (reads writes : P → Transfer S) (syncs : P → StoreSy
       begin-each : AtEach (λ so_far. Opening (so_far ++ since)) (map OfSpare b.calls)
       begin-each =
           each-map (λ so_far. BeginsBy old_older.size (f.last + 1) table (spare_in so_far) × (pages_in so_far ≡ []) × (log_in so_far ≡ [])) (λ so_far. Opening (so_far ++ since))
-          (λ so_far s. beginning_it (whole-settled (log_in (so_far ++ since)) (log-then so_far s.2)) (whole-redone (pages_in (so_far ++ since)) (pages-then so_far s.1)) (subst (BeginsBy old_older.size (f.last + 1) table) (sym (spare-then so_far)) s.0))
+          (λ so_far s. beginning_it (whole-settled (log_in (so_far ++ since)) (log-then so_far s.2)) (whole-redone (pages_in (so_far ++ since)) (pages-then so_far s.1)) (ap (some is_good_sync) (pages-then so_far s.1) ∙ r.recovers.2 all_done) (subst (BeginsBy old_older.size (f.last + 1) table) (sym (spare-then so_far)) s.0))
           (map OfSpare b.calls) (each-spare (BeginsBy old_older.size (f.last + 1) table) b.calls (each-by old_older.size (f.last + 1) table b.calls b.by))
 
       begin-order : Ordered new new_older

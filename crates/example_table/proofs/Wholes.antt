@@ -31,7 +31,7 @@ use Rattle.example_log.specs.declared.log.LogFile.{LogFile}
 use Rattle.example_log.specs.Disk.{DeviceCall, Honest}
 use Rattle.example_log.specs.Files.{FileCall}
 use Rattle.example_table.specs.declared.table.TableFault.{TableFault}
-use Rattle.example_table.specs.Images.{AreImaged, AreWhole, FirstsAreFull, IsWhole, is_of, whole_of}
+use Rattle.example_table.specs.Images.{AreImaged, AreLogged, AreWhole, FirstsAreFull, IsFull, IsWhole, is_of, whole_of}
 use Rattle.example_table.specs.PoolLives.{PoolLife}
 use Rattle.example_table.specs.Tables.{Cut, contents, writes_of}
 use Rattle.example_table.specs.TableCalls.{HasCommit, IsTable, LeavesCommit, under}
@@ -188,11 +188,17 @@ held-is c tears first past synced calls life legal honestly p kept here =
 
 -- ---- the changes of a commit, one after the other
 
+logged-push : (size : ℕ) (changes made : List LogRecord) (r m : LogRecord) → AreLogged size changes made → m.page ≡ r.page → (m ≡ r) ⊎ IsFull size m → AreLogged size (changes ++ r ∷ []) (made ++ m ∷ [])
+logged-push size [] [] r m h page is = (page, is, tt)
+logged-push size [] (y ∷ made) r m h page is = absurd h
+logged-push size (x ∷ changes) [] r m h page is = absurd h
+logged-push size (x ∷ changes) (y ∷ made) r m h page is = (h.0, h.1, logged-push size changes made r m h.2 page is)
+
 pub whole-none : (size : ℕ) (calls : List DeviceCall) (all log : List LogRecord) → FirstsAreFull size log → AreWhole size calls all log [] []
-whole-none size calls all log f = record { pages = λ p. refl; full = f; same = λ tears first h p. refl }
+whole-none size calls all log f = record { pages = λ p. refl; each = tt; full = f; same = λ tears first h p. refl }
 
 pub whole-later : (size : ℕ) (later calls : List DeviceCall) (all log changes made : List LogRecord) → AreWhole size calls all log changes made → AreWhole size (later ++ calls) all log changes made
-whole-later size later calls all log changes made w = record { pages = w.pages; full = w.full; same = λ tears first h p. w.same tears first (honest-then tears first later calls h) p }
+whole-later size later calls all log changes made w = record { pages = w.pages; each = w.each; full = w.full; same = λ tears first h p. w.same tears first (honest-then tears first later calls h) p }
 
 module _ (size : ℕ) (calls : List DeviceCall) (all log changes made : List LogRecord) (w : AreWhole size calls all log changes made) (r : LogRecord) where
   push-reverse : (xs : List LogRecord) (x : LogRecord) → reverse (xs ++ x ∷ []) ≡ x ∷ reverse xs
@@ -207,6 +213,7 @@ module _ (size : ℕ) (calls : List DeviceCall) (all log changes made : List Log
   pub whole-copied : (copy : LogRecord) → copy ≡ r → (some (is_of r.page) log ≡ true) ⊎ (some (is_of r.page) made ≡ true) → AreWhole size calls all log (changes ++ r ∷ []) (made ++ copy ∷ [])
   whole-copied copy is known = subst (λ (x : LogRecord). AreWhole size calls all log (changes ++ r ∷ []) (made ++ x ∷ [])) (sym is) (record {
     pages = pages-next r refl;
+    each = logged-push size changes made r r w.each refl (inl refl);
     full = subst (λ (t : List LogRecord). FirstsAreFull size (t ++ log)) (sym (push-reverse made r)) (record { here = λ none. absurd (true≢false (sym there ∙ none)); before = w.full });
     same = λ tears first h p.
         (let x = redo 0 all p (first p) in
@@ -230,6 +237,7 @@ module _ (size : ℕ) (calls : List DeviceCall) (all log changes made : List Log
   pub whole-imaged : (made_r : LogRecord) → IsWhole size calls all r made_r → some (is_of r.page) made ≡ false → AreWhole size calls all log (changes ++ r ∷ []) (made ++ made_r ∷ [])
   whole-imaged made_r is none = subst (λ (x : LogRecord). AreWhole size calls all log (changes ++ r ∷ []) (made ++ x ∷ [])) (sym is.made_is) (record {
     pages = pages-next (whole_of r is.bytes) refl;
+    each = logged-push size changes made r (whole_of r is.bytes) w.each refl (inr (refl, long));
     full = subst (λ (t : List LogRecord). FirstsAreFull size (t ++ log)) (sym (push-reverse made (whole_of r is.bytes))) (record { here = λ first. (refl, long); before = w.full });
     same = λ tears first h p.
         (let x = redo 0 all p (first p) in
@@ -284,10 +292,11 @@ module _ (size : ℕ) (all log xs : List LogRecord) (i : ℕ) (r : LogRecord) (m
 -- ---- a commit makes of the pages what its changes make
 
 pub commit-makes : (cut : Cut) (size lsn : ℕ) (calls : List DeviceCall) (commits : List (List LogRecord)) (changes made : List LogRecord)
-    → AreWhole size calls (reverse (changes_of (cut.commits ++ commits))) (reverse (changes_of commits)) changes made → HasCommit cut calls commits (commits ++ map (under lsn) made ∷ []) lsn changes
+    → AreWhole size calls (reverse (changes_of (cut.commits ++ commits))) (reverse (changes_of commits)) changes made → HasCommit size cut calls commits (commits ++ map (under lsn) made ∷ []) lsn changes
 commit-makes cut size lsn calls commits changes made w = record {
   made = made;
   after_is = refl;
+  each = w.each;
   makes = λ tears first h p.
       (ap (λ (rs : List LogRecord). redo 0 rs p (first p)) told_all
       ∙ redo-append p (reverse (map (under lsn) made)) (reverse (changes_of (cut.commits ++ commits))) (first p)
@@ -306,8 +315,8 @@ commit-makes cut size lsn calls commits changes made w = record {
         last [] = refl
         last (x ∷ xs) = ap (λ (t : List LogRecord). x ∷ t) (last xs)
 
-pub commit-later : (cut : Cut) (later calls : List DeviceCall) (commits after : List (List LogRecord)) (lsn : ℕ) (changes : List LogRecord) → HasCommit cut calls commits after lsn changes → HasCommit cut (later ++ calls) commits after lsn changes
-commit-later cut later calls commits after lsn changes h = record { made = h.made; after_is = h.after_is; makes = λ tears first k p. h.makes tears first (honest-then tears first later calls k) p }
+pub commit-later : {size : ℕ} (cut : Cut) (later calls : List DeviceCall) (commits after : List (List LogRecord)) (lsn : ℕ) (changes : List LogRecord) → HasCommit size cut calls commits after lsn changes → HasCommit size cut (later ++ calls) commits after lsn changes
+commit-later {size = size} cut later calls commits after lsn changes h = record { made = h.made; after_is = h.after_is; each = h.each; makes = λ tears first k p. h.makes tears first (honest-then tears first later calls k) p }
 
 -- ---- a pass of a page lends what all commits make of it
 
@@ -380,25 +389,25 @@ imaged-added flags lsn made commits known = imaged-noted flags flags lsn made co
 
 -- ---- what a commit says
 
-pub says-none : (cut : Cut) (calls : List DeviceCall) (commits : List (List LogRecord)) (lsn : ℕ) (changes : List LogRecord) (ended : Bool) (result : Result ℕ TableFault) → IsErr result → (cs : List DeviceCall) (after : List (List LogRecord)) → after ≡ commits → LeavesCommit cut calls commits lsn changes ended result cs after
-says-none cut calls commits lsn changes ended (Ok x) e cs after same = absurd (cc)
-says-none cut calls commits lsn changes ended (Err why) e cs after same = (inl same, (λ no. same), tt)
+pub says-none : {size : ℕ} (cut : Cut) (calls : List DeviceCall) (commits : List (List LogRecord)) (lsn : ℕ) (changes : List LogRecord) (ended : Bool) (result : Result ℕ TableFault) → IsErr result → (cs : List DeviceCall) (after : List (List LogRecord)) → after ≡ commits → LeavesCommit size cut calls commits lsn changes ended result cs after
+says-none {size = size} cut calls commits lsn changes ended (Ok x) e cs after same = absurd (cc)
+says-none {size = size} cut calls commits lsn changes ended (Err why) e cs after same = (inl same, (λ no. same), tt)
 
 -- what more calls leave
-pub has-later : (cut : Cut) (later more calls : List DeviceCall) (commits after now : List (List LogRecord)) (lsn : ℕ) (changes : List LogRecord) → HasCommit cut (more ++ calls) commits after lsn changes → now ≡ after → HasCommit cut ((later ++ more) ++ calls) commits now lsn changes
-has-later cut later more calls commits after now lsn changes h same =
-    subst (λ (x : List (List LogRecord)). HasCommit cut ((later ++ more) ++ calls) commits x lsn changes) (sym same)
-    (subst (λ (cs : List DeviceCall). HasCommit cut cs commits after lsn changes) (sym (append_assoc later more calls)) (commit-later cut later (more ++ calls) commits after lsn changes h))
+pub has-later : {size : ℕ} (cut : Cut) (later more calls : List DeviceCall) (commits after now : List (List LogRecord)) (lsn : ℕ) (changes : List LogRecord) → HasCommit size cut (more ++ calls) commits after lsn changes → now ≡ after → HasCommit size cut ((later ++ more) ++ calls) commits now lsn changes
+has-later {size = size} cut later more calls commits after now lsn changes h same =
+    subst (λ (x : List (List LogRecord)). HasCommit size cut ((later ++ more) ++ calls) commits x lsn changes) (sym same)
+    (subst (λ (cs : List DeviceCall). HasCommit size cut cs commits after lsn changes) (sym (append_assoc later more calls)) (commit-later cut later (more ++ calls) commits after lsn changes h))
 
 -- what a commit says once its record may be there
-pub says-more : (cut : Cut) (later more calls : List DeviceCall) (commits after : List (List LogRecord)) (lsn : ℕ) (changes made : List LogRecord) (ended : Bool) (result : Result ℕ TableFault) {Q : Type 0}
-    → HasCommit cut (more ++ calls) commits (commits ++ map (under lsn) made ∷ []) lsn changes → ((after ≡ commits) × Q) ⊎ (after ≡ commits ++ map (under lsn) made ∷ []) → OnErr result (ended ≡ false → after ≡ commits)
-    → IfOk result (λ got. (got ≡ lsn) × (after ≡ commits ++ map (under got) made ∷ [])) → LeavesCommit cut calls commits lsn changes ended result (later ++ more) after
-says-more cut later more calls commits after lsn changes made ended (Err why) {Q = Q} has which none ok = (by which, none, tt)
+pub says-more : {size : ℕ} (cut : Cut) (later more calls : List DeviceCall) (commits after : List (List LogRecord)) (lsn : ℕ) (changes made : List LogRecord) (ended : Bool) (result : Result ℕ TableFault) {Q : Type 0}
+    → HasCommit size cut (more ++ calls) commits (commits ++ map (under lsn) made ∷ []) lsn changes → ((after ≡ commits) × Q) ⊎ (after ≡ commits ++ map (under lsn) made ∷ []) → OnErr result (ended ≡ false → after ≡ commits)
+    → IfOk result (λ got. (got ≡ lsn) × (after ≡ commits ++ map (under got) made ∷ [])) → LeavesCommit size cut calls commits lsn changes ended result (later ++ more) after
+says-more {size = size} cut later more calls commits after lsn changes made ended (Err why) {Q = Q} has which none ok = (by which, none, tt)
   where
-    by : ((after ≡ commits) × Q) ⊎ (after ≡ commits ++ map (under lsn) made ∷ []) → (after ≡ commits) ⊎ HasCommit cut ((later ++ more) ++ calls) commits after lsn changes
+    by : ((after ≡ commits) × Q) ⊎ (after ≡ commits ++ map (under lsn) made ∷ []) → (after ≡ commits) ⊎ HasCommit size cut ((later ++ more) ++ calls) commits after lsn changes
     by (inl same) = inl same.0
     by (inr added) = inr (has-later cut later more calls commits (commits ++ map (under lsn) made ∷ []) after lsn changes has added)
-says-more cut later more calls commits after lsn changes made ended (Ok got) has which none ok =
+says-more {size = size} cut later more calls commits after lsn changes made ended (Ok got) has which none ok =
     let there = has-later cut later more calls commits (commits ++ map (under lsn) made ∷ []) after lsn changes has (ok.1 ∙ ap (λ (n : ℕ). commits ++ map (under n) made ∷ []) ok.0) in
-    (inr there, tt, (ok.0, subst (λ (n : ℕ). HasCommit cut ((later ++ more) ++ calls) commits after n changes) (sym ok.0) there))
+    (inr there, tt, (ok.0, subst (λ (n : ℕ). HasCommit size cut ((later ++ more) ++ calls) commits after n changes) (sym ok.0) there))

@@ -1,14 +1,15 @@
 -- What a checkpoint does to a table.
-use Rattle.std.specs.Prelude.{◌≡◌, ℕ, ◌+◌, Bool, false, List, [], ◌++◌, length, Result, Ok, Err}
+use Rattle.std.specs.Prelude.{◌≡◌, ℕ, ◌+◌, Bool, true, false, List, [], ◌++◌, length, Result, Ok, Err}
 use Rattle.bp_device.specs.Owned.{OwnedView}
 use Rattle.bp_ports.specs.Files.{Transfer, StoreSync}
 use Rattle.bp_trail.specs.declared.records.LogRecord.{LogRecord}
+use Rattle.bp_trail.specs.Lists.{some}
 use Rattle.bp_trail.specs.Parameters.{Parameters}
 use Rattle.bp_trail.specs.Saved.{unsaved}
 use Rattle.bp_trail.specs.Trail.{Trail}
 use Rattle.example_log.specs.declared.log.LogFile.{LogFile}
 use Rattle.example_table.specs.declared.table.TableFault.{TableFault}
-use Rattle.example_log.specs.Disk.{DeviceCall, Reads, Writes, Syncs, Did}
+use Rattle.example_log.specs.Disk.{DeviceCall, Reads, Writes, Syncs, Did, is_good_sync}
 use Rattle.example_log.specs.Files.{FileCall}
 use Rattle.example_log.specs.Moments.{AtEach, Made, Step, log_in, pages_in, spare_in}
 use Rattle.example_table.specs.Opening.{Beginning}
@@ -26,9 +27,10 @@ pub record HasSaved {S P : Type 0} (page_reads : Reads P) (page_writes : Writes 
   pub is : IsTable table cut file start new.core.past (more ++ calls) log_calls commits durable
       pending new log
   pub saved : (p : ℕ) → unsaved new.core.past p ≡ false
+  pub synced : some is_good_sync more ≡ true
 
 -- A moment of a checkpoint: the other file is as it was, and the table stands; or each commit is durable,
--- in the log and in the pages, and the next log is begun in part, or not yet.
+-- in the log and in the pages, which were synced since, and the next log is begun in part, or not yet.
 pub data IsMoving (c : Parameters) (table : List ℕ) (cut : Cut) (file : List ℕ) (start : ℕ)
     (calls : List DeviceCall) (log_calls : List FileCall) (commits : List (List LogRecord))
     (records : ℕ) (other : List ℕ) (before : List FileCall) (so_far : List Step) : Type 0 where
@@ -37,7 +39,7 @@ pub data IsMoving (c : Parameters) (table : List ℕ) (cut : Cut) (file : List �
       → IsMoving c table cut file start calls log_calls commits records other before so_far
   moving : {alive : Bool} {past : Trail} → TableRan c table cut file start alive past past
       (pages_in so_far ++ calls) (log_in so_far ++ log_calls) commits (1 + length commits) []
-      → ((p : ℕ) → unsaved past p ≡ false)
+      → ((p : ℕ) → unsaved past p ≡ false) → some is_good_sync (pages_in so_far) ≡ true
       → Beginning other (start + 1 + length commits) table before (spare_in so_far ++ before)
       → IsMoving c table cut file start calls log_calls commits records other before so_far
 

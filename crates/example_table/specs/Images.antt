@@ -1,6 +1,6 @@
 -- Full images: the first change of a page since the log was begun is of all its bytes, so that redo mends
 -- whatever a crash leaves of the page. A log is newest first, and a list of changes oldest first.
-use Rattle.std.specs.Prelude.{◌≡◌, ℕ, ◌+◌, ◌≤◌, ◌==◌, Bool, true, false, IsFalse, List, ◌++◌, length, reverse, slice_index_or}
+use Rattle.std.specs.Prelude.{◌≡◌, ◌⊎◌, ℕ, ◌+◌, ◌≤◌, ◌==◌, Bool, true, false, IsFalse, List, [], ◌∷◌, ◌++◌, length, reverse, slice_index_or}
 use Rattle.bp_page.specs.Patched.{patched}
 use Rattle.bp_trail.specs.declared.records.LogRecord.{LogRecord}
 use Rattle.bp_trail.specs.Lists.{some, EachEntry}
@@ -35,11 +35,19 @@ pub record IsWhole (size : ℕ) (calls : List DeviceCall) (all : List LogRecord)
   pub brought : (tears : Bool) (first : ℕ → List ℕ) → Honest tears first calls
       → bytes ≡ redo 0 all r.page (first r.page)
 
+-- each is as it was asked for, or is of all bytes of its page
+abbrev pub AreLogged : ℕ → List LogRecord → List LogRecord → Type 0
+AreLogged size [] [] = Unit {0}
+AreLogged size (r ∷ changes) (m ∷ made) =
+    (m.page ≡ r.page) × ((m ≡ r) ⊎ IsFull size m) × AreLogged size changes made
+AreLogged size _ _ = ⊥
+
 -- Changes as the log is to have them, after what it has: the first of each page is full, and they do to
 -- the pages, as all records so far make them, what the changes do that were asked for
 pub record AreWhole (size : ℕ) (calls : List DeviceCall) (all log changes made : List LogRecord)
     : Type 0 where
   pub pages : (p : ℕ) → some (is_of p) (reverse made) ≡ some (is_of p) (reverse changes)
+  pub each : AreLogged size changes made
   pub full : FirstsAreFull size (reverse made ++ log)
   pub same : (tears : Bool) (first : ℕ → List ℕ) → Honest tears first calls → (p : ℕ)
       → redo 0 (reverse made) p (redo 0 all p (first p))

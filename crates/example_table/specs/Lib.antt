@@ -3,6 +3,7 @@ pub mod PoolLives
 -- The first change of a page since the log was begun.
 pub mod Images
 -- A table, as its calls leave it.
+pub mod Passes
 pub mod Marks
 pub mod Tables
 pub mod TableCalls

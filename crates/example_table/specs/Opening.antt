@@ -4,6 +4,7 @@ use Rattle.std.specs.Result.{IsErr, is_ok}
 use Rattle.bp_page.specs.declared.limits.Geometry.{Geometry}
 use Rattle.bp_ports.specs.Files.{Transfer, StoreSync}
 use Rattle.bp_trail.specs.declared.records.LogRecord.{LogRecord}
+use Rattle.bp_trail.specs.Lists.{some}
 use Rattle.example_log.specs.declared.log.LogFile.{LogFile}
 use Rattle.example_log.specs.declared.log.LogFault.{LogFault}
 use Rattle.example_log.specs.declared.log.LogFault.TheVariants.{Memory, Device, Full, HasLog, OtherSize, TwoLogs}
@@ -12,7 +13,7 @@ use Rattle.example_table.specs.declared.table.TableFault.TheVariants.{Log, Pages
 use Rattle.bp_page.specs.declared.refusals.Refusal.TheVariants.{OutOfPage}
 use Rattle.example_log.specs.Heads.{OtherHead, ReadFault}
 use Rattle.example_log.specs.Commits.{HasCommits, log_of}
-use Rattle.example_log.specs.Disk.{DeviceCall, Reads, Writes, Syncs, Did}
+use Rattle.example_log.specs.Disk.{Reads, Writes, Syncs, is_good_sync}
 use Rattle.example_log.specs.Files.{FileCall, FileDid, FileLeaves, failed, synced, written}
 use Rattle.example_log.specs.Frames.{IsRecord, NoFrame, frame}
 use Rattle.example_log.specs.Lives.{LogLife, Reopened, whole}
@@ -64,13 +65,6 @@ pub record Found (device : Geometry) (table newer older : List ℕ) : Type 0 whe
   pub same_head : (lsn : ℕ) (payload rest : List ℕ) → IsRecord lsn payload
       → older ≡ frame lsn payload ++ rest → payload ≡ table
 
--- these were redone; or some pages of them
-pub record Redid {P : Type 0} (reads : Reads P) (writes : Writes P) (syncs : Syncs P)
-    (device : Geometry) (changes : List LogRecord) (old : P) (done : Bool) (new : P) : Type 0 where
-  pub calls : List DeviceCall
-  pub did : Did reads writes syncs old calls new
-  pub recovers : Recovers device.pages device.size 0 (reverse changes) calls done
-
 -- ---- what is done with the files
 
 -- the file of the newer log as it is written again, before any page is: its records, and zeros
@@ -114,20 +108,19 @@ pub data MoveFault (device : Geometry) (head newer older : List ℕ) : TableFaul
       → 2 ^ 64 - 2 ≤ last → MoveFault device head newer older (Log Full)
 
 -- A moment of an opening that found a log with these changes: the file of that log is being written
--- again; or that is durable, and pages are redone; or all are, durably, and a log is begun in the other
--- file, of so many bytes, or not yet.
+-- again; or that is durable, and pages are redone; or all are, durably, and synced since, and a log is
+-- begun in the other file, of so many bytes, or not yet.
 pub data IsOpening (device : Geometry) (again table : List ℕ) (changes : List LogRecord)
     (next size : ℕ) (so_far : List Step) : Type 0 where
-  settling : {all : List FileCall} {good : Bool} (later : List FileCall) → pages_in so_far ≡ [] → spare_in so_far ≡ []
-      → Settles again all good → all ≡ later ++ log_in so_far
+  settling : {all : List FileCall} {good : Bool} (later : List FileCall) → pages_in so_far ≡ []
+      → spare_in so_far ≡ [] → Settles again all good → all ≡ later ++ log_in so_far
       → IsOpening device again table changes next size so_far
-  redoing : {all : List DeviceCall} {done : Bool} (later : List DeviceCall) → spare_in so_far ≡ []
-      → Settles again (log_in so_far) true
-      → Recovers device.pages device.size 0 (reverse changes) all done → all ≡ later ++ pages_in so_far
+  redoing : spare_in so_far ≡ [] → Settles again (log_in so_far) true
+      → Recovers device.pages device.size 0 (reverse changes) (pages_in so_far) false
       → IsOpening device again table changes next size so_far
   beginning : Settles again (log_in so_far) true
       → Recovers device.pages device.size 0 (reverse changes) (pages_in so_far) true
-      → BeginsBy size next table (spare_in so_far)
+      → some is_good_sync (pages_in so_far) ≡ true → BeginsBy size next table (spare_in so_far)
       → IsOpening device again table changes next size so_far
 
 -- its calls of the device and of both files stand in one list, in the order in which they were made
@@ -282,12 +275,13 @@ pub data UnreadFault {S : Type 0} (reads : Transfer S) (head : List ℕ) (one tw
 
 -- an opening that wrote nothing; or the log goes on in the second file, or in the first
 abbrev pub OpensLog : {S P : Type 0} → (P → Transfer S) → (P → Transfer S) → (P → StoreSync S)
-    → Reads P → Writes P → Syncs P → Geometry → List ℕ → P → LogFile S → LogFile S → Result Bool TableFault → P → LogFile S
-    → LogFile S → Type 0
+    → Reads P → Writes P → Syncs P → Geometry → List ℕ → P → LogFile S → LogFile S
+    → Result Bool TableFault → P → LogFile S → LogFile S → Type 0
 OpensLog reads writes syncs page_reads page_writes page_syncs device table old one two result new
     new_one new_two =
     (IsErr result × IfErr result (UnreadFault (reads old) table one two) × (new ≡ old)
-    × IsOnlyRead (reads old) (writes old) (syncs old) one new_one × IsOnlyRead (reads old) (writes old) (syncs old) two new_two)
+    × IsOnlyRead (reads old) (writes old) (syncs old) one new_one
+    × IsOnlyRead (reads old) (writes old) (syncs old) two new_two)
     ⊎ Moves reads writes syncs page_reads page_writes page_syncs device table true old one two
     result new new_one new_two
     ⊎ Moves reads writes syncs page_reads page_writes page_syncs device table false old two one

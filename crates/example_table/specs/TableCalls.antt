@@ -12,6 +12,7 @@ use Rattle.example_log.specs.Disk.{DeviceCall, Reads, Writes, Syncs, Honest}
 use Rattle.example_log.specs.Files.{FileCall}
 use Rattle.example_log.specs.Moments.{AtEach, Made, Step, log_in, pages_in, spare_in}
 use Rattle.example_log.specs.LogFiles.{IsLogFile}
+use Rattle.example_table.specs.Images.{AreLogged}
 use Rattle.example_table.specs.Tables.{Cut, Stands, TableRan, contents}
 
 -- a change under an LSN
@@ -66,20 +67,22 @@ TableDoes reads writes syncs page_reads page_writes page_syncs old new old_log n
     → TableGoes reads writes syncs page_reads page_writes page_syncs old new old_log new_log table cut
     file start calls log_calls commits records (so commits records pending)
 
--- A commit was added, whose record has these changes, the first of each page with all other bytes of it.
--- What all commits then make of the first images, these changes make of what the commits before made: if
--- reads brought what they may
-pub record HasCommit (cut : Cut) (calls : List DeviceCall) (commits after : List (List LogRecord))
-    (lsn : ℕ) (changes : List LogRecord) : Type 0 where
+-- A commit was added, whose record has these changes, and no others: each as it was asked for, or with
+-- all other bytes of its page. What all commits then make of the first images, these changes make of
+-- what the commits before made: if reads brought what they may
+pub record HasCommit (size : ℕ) (cut : Cut) (calls : List DeviceCall)
+    (commits after : List (List LogRecord)) (lsn : ℕ) (changes : List LogRecord) : Type 0 where
   pub made : List LogRecord
   pub after_is : after ≡ commits ++ map (under lsn) made ∷ []
+  pub each : AreLogged size changes made
   pub makes : (tears : Bool) (first : ℕ → List ℕ) → Honest tears first calls → (p : ℕ)
       → contents cut after first p ≡ redo 0 (reverse changes) p (contents cut commits first p)
 
 -- what a commit leaves, or one that was refused: if the table then goes on, nothing was committed
-abbrev pub LeavesCommit : Cut → List DeviceCall → List (List LogRecord) → ℕ → List LogRecord → Bool
-    → Result ℕ TableFault → List DeviceCall → List (List LogRecord) → Type 0
-LeavesCommit cut calls commits lsn changes ended result more after =
-    ((after ≡ commits) ⊎ HasCommit cut (more ++ calls) commits after lsn changes)
+abbrev pub LeavesCommit : ℕ → Cut → List DeviceCall → List (List LogRecord) → ℕ → List LogRecord
+    → Bool → Result ℕ TableFault → List DeviceCall → List (List LogRecord) → Type 0
+LeavesCommit size cut calls commits lsn changes ended result more after =
+    ((after ≡ commits) ⊎ HasCommit size cut (more ++ calls) commits after lsn changes)
     × OnErr result (ended ≡ false → after ≡ commits)
-    × IfOk result (λ got. (got ≡ lsn) × HasCommit cut (more ++ calls) commits after got changes)
+    × IfOk result (λ got.
+    (got ≡ lsn) × HasCommit size cut (more ++ calls) commits after got changes)

@@ -11,6 +11,7 @@ ghost use Rattle.example_log.specs.Moments.{pages_in};
 ghost use Rattle.example_log.specs.Files.{FileCall};
 ghost use Rattle.example_table.specs.Images.{AreImaged, AreWhole, IsWhole, is_of, whole_of as whole_is};
 ghost use Rattle.example_table.specs.Marks.{KeepsMarks};
+ghost use Rattle.example_table.specs.Passes.{GivesBack};
 ghost use Rattle.example_table.specs.Tables.{Cut};
 ghost use Rattle.example_table.specs.TableCalls.{IsTable, TableGoes};
 
@@ -129,9 +130,10 @@ impl<S: LogStore<P>, P: Port> Table<S, P> {
             self.old.pool self.new.pool self.old.log self.new.log table cut file start calls
             log_calls commits records
             (λ after n left. (after ≡ commits) × (left ≡ [])))
-            × IfOk result (λ made. IsWhole self.old.pool.core.parameters.size ((pages_in g.steps) ++ calls)
-            (reverse (changes_of (cut.commits ++ commits))) change.now made) }
+            × IfOk result (λ made. IsWhole self.old.pool.core.parameters.size
+            (pages_in g.steps ++ calls) (reverse (changes_of (cut.commits ++ commits))) change.now made) }
         ensures kept { KeepsMarks self.old self.new }
+        ensures passes { GivesBack self.old.pool self.new.pool }
     {
         let pass = self.fix_page(rt, change.page)?;
         let made = self.whole_by(alloc, &pass, change);
@@ -157,10 +159,11 @@ impl<S: LogStore<P>, P: Port> Table<S, P> {
             self.old.pool self.new.pool self.old.log self.new.log table cut file start calls
             log_calls commits records
             (λ after n left. (after ≡ commits) × (left ≡ [])))
-            × IfOk result (λ made. AreWhole self.old.pool.core.parameters.size ((pages_in g.steps) ++ calls)
-            (reverse (changes_of (cut.commits ++ commits))) (reverse (changes_of commits)) changes.now
-            made.items) }
+            × IfOk result (λ made. AreWhole self.old.pool.core.parameters.size
+            (pages_in g.steps ++ calls) (reverse (changes_of (cut.commits ++ commits)))
+            (reverse (changes_of commits)) changes.now made.items) }
         ensures kept { KeepsMarks self.old self.new }
+        ensures passes { GivesBack self.old.pool self.new.pool }
     {
         let mut made = Vec::new(alloc);
         for change in changes {

@@ -1,5 +1,6 @@
 //! Why a table recovers: the laws of a crash at any moment. A call that is a law does nothing: its contract is the law.
 ghost use Rattle.std.specs.Prelude.{◌≡◌, ◌⊎◌, ◌+◌, ◌<◌, ℕ, Bool, true, false, List, [], ◌++◌, length, reverse};
+ghost use Rattle.bp_page.specs.declared.limits.Geometry.{Geometry};
 ghost use Rattle.bp_trail.specs.declared.records.LogRecord.{LogRecord as Record};
 ghost use Rattle.bp_trail.specs.Parameters.{Parameters};
 ghost use Rattle.bp_trail.specs.Trail.{Trail};
@@ -13,7 +14,7 @@ ghost use Rattle.example_log.specs.LogFiles.{Wipes};
 ghost use Rattle.example_log.specs.Moments.{AtEach, Step, log_in, pages_in, spare_in};
 ghost use Rattle.example_log.specs.Promise.{MayBeRedone, Recovers};
 ghost use Rattle.example_table.specs.Checkpoints.{IsMoving};
-ghost use Rattle.example_table.specs.Opening.{AreWithin, Beginning, BeginsBefore, FindsLog, IsNewer, MayBeOpened, again_of};
+ghost use Rattle.example_table.specs.Opening.{AreWithin, Beginning, BeginsBefore, FindsLog, IsNewer, IsOpening, MayBeOpened, again_of};
 ghost use Rattle.example_table.specs.Tables.{Cut, Stands, TableRan};
 
 /// Stop a table that ran so at any moment of its device since its log was begun, by a loss of power or by the end of its process
@@ -130,7 +131,9 @@ pub fn a_checkpoint_may_be_stopped()
 /// then makes of the pages what they were to be, as often as it is stopped. Reads brought `seen` of the pages when it
 /// began, which a loss of power might have left too, and `first` is what it would have left. The newer log was written
 /// again before any page was. The other file may be as an opening left it that ended while it wiped it: it need not be
-/// durable, as long as no log that begins as late is in it, durably or not (`wiping`).
+/// durable, as long as no log that begins as late is in it, durably or not (`wiping`). `steps` are the opening's calls of
+/// the device and of both files, in the order in which they were made: at each moment of them that holds, or no page and
+/// nothing of the other file is written yet, which law `a_crash_is_mended` tells of (`within`).
 ///
 /// When the opening is done each page is what it was to be, durably, and the log that was read begins before the one
 /// that goes on, also as a checkpoint after it finds its file (`settled`). It does nothing: its contract is the law.
@@ -138,6 +141,28 @@ pub fn a_checkpoint_may_be_stopped()
 pub fn an_opening_may_be_stopped()
     ensures seen { (tears : Bool) (first : ℕ → List ℕ) (calls : List DeviceCall) (p : ℕ)
         (image : List ℕ) → MayBring tears first calls p image → MayLeave tears first calls p image }
+    ensures within { (tears : Bool) (device : Geometry) (wanted seen first left : ℕ → List ℕ)
+        (table newer older newer_file file left_newer left_older : List ℕ) (begun last : ℕ)
+        (changes : List Record) (newer_before before : List FileCall)
+        (steps later so_far : List Step) →
+        (is : IsNewer table newer older begun last changes) →
+        AtEach (IsOpening device (again_of is) table changes (last + 1) (length file)) steps →
+        steps ≡ later ++ so_far → AreWithin device.pages device.size changes →
+        MayBeRedone tears device.size 0 (reverse changes) wanted seen →
+        MayBeRedone tears device.size 0 (reverse changes) wanted first →
+        Honest tears seen (pages_in so_far) →
+        ((p : ℕ) → MayLeave tears first (pages_in so_far) p (left p)) →
+        length newer_file ≡ length (again_of is) →
+        length (written_bytes newer_file newer_before) ≡ length (again_of is) →
+        FileLeaves newer_file (log_in so_far ++ newer_before) left_newer →
+        failed before ≡ false → length (written_bytes file before) ≡ length file →
+        BeginsBefore begun (synced_bytes file before) →
+        BeginsBefore begun (written_bytes file before) →
+        FileLeaves file (spare_in so_far ++ before) left_older →
+        TellsTrue (last + 1) (synced_bytes file (spare_in so_far ++ before))
+        (written_bytes file (spare_in so_far ++ before)) left_older →
+        ((pages_in so_far ≡ []) × (spare_in so_far ≡ []))
+        ⊎ MayBeOpened tears device.size table left_newer left_older wanted left }
     ensures redoing { (tears : Bool) (pages size : ℕ) (wanted seen first left : ℕ → List ℕ)
         (table newer older left_newer left_older : List ℕ) (begun last : ℕ) (changes : List Record)
         (done : Bool) (calls later so_far : List DeviceCall) →

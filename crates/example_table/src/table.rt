@@ -16,6 +16,8 @@ ghost use Rattle.example_table.specs.Checkpoints.{Checkpoints, HasSaved};
 ghost use Rattle.example_log.specs.Heads.{head_of as head_is};
 ghost use Rattle.example_log.specs.LogFiles.{IsLogFile};
 ghost use Rattle.example_table.specs.Marks.{KeepsMarks};
+ghost use Rattle.example_table.specs.Passes.{AddsPass, GivesBack, KeepsPasses};
+ghost use Rattle.bp_trail.specs.Passes.{passes_out};
 ghost use Rattle.example_table.specs.Tables.{Cut, no_cut};
 ghost use Rattle.example_table.specs.Images.{AreImaged, FirstsAreFull, is_of};
 ghost use Rattle.bp_trail.specs.Lists.{some};
@@ -137,6 +139,7 @@ impl<S: LogStore<P>, P: Port> Table<S, P> {
         })) }
         ensures log { IfOk result (λ made. made.log ≡ log) }
         ensures imaged { IfOk result (λ made. AreImaged made.imaged.items []) }
+        ensures passes { IfOk result (λ made. passes_out made.pool.core.past ≡ []) }
     {
         let pool = OwnedPool::over(alloc, port, settings, frames, ROOM)?;
         let imaged = vec![in alloc; false; pool.port().geometry().pages as usize]?;
@@ -161,6 +164,7 @@ impl<S: LogStore<P>, P: Port> Table<S, P> {
         ensures fault { IfErr result
             (DurableFault S.syncs self.old.pool self.old.log self.new.log) }
         ensures kept { KeepsMarks self.old self.new }
+        ensures passes { KeepsPasses self.old.pool self.new.pool }
     {
         if self.log.is_ended {
             return Err(TableFault::Log(LogFault::Ended));
@@ -180,6 +184,7 @@ impl<S: LogStore<P>, P: Port> Table<S, P> {
         ensures known { IfOk result (λ pass. KnowsPass self.new.pool.core pass) }
         ensures log { self.new.log ≡ self.old.log }
         ensures kept { KeepsMarks self.old self.new }
+        ensures passes { AddsPass self.old.pool result self.new.pool }
     {
         let fixed = self.pool.fix(rt, page);
         self.pool.core().keeps_the_rules();
@@ -196,6 +201,7 @@ impl<S: LogStore<P>, P: Port> Table<S, P> {
         ensures alive { self.old.log.is_ended ≡ false →
             OnOk result (self.new.log.is_ended ≡ false) }
         ensures kept { KeepsMarks self.old self.new }
+        ensures passes { AddsPass self.old.pool result self.new.pool }
     {
         match self.fix(rt, page) {
             Ok(pass) => return Ok(pass),
@@ -222,6 +228,7 @@ impl<S: LogStore<P>, P: Port> Table<S, P> {
         ensures alive { self.old.log.is_ended ≡ false →
             OnOk result (self.new.log.is_ended ≡ false) }
         ensures kept { self.new.imaged.items ≡ self.old.imaged.items }
+        ensures passes { GivesBack self.old.pool self.new.pool }
     {
         let pass = self.fix_page(rt, change.page)?;
         let bytes = change.bytes.bytes();
@@ -262,6 +269,7 @@ impl<S: LogStore<P>, P: Port> Table<S, P> {
         ensures noted { (p : ℕ) → slice_index_or self.new.imaged.items p false ≡ true →
             (slice_index_or self.old.imaged.items p false ≡ true)
             ⊎ (some (is_of p) changes.now ≡ true) }
+        ensures passes { GivesBack self.old.pool self.new.pool }
     {
         if self.log.next >= NO_COMMIT {
             return Err(TableFault::Log(LogFault::Full));
@@ -322,9 +330,10 @@ impl<S: LogStore<P>, P: Port> Table<S, P> {
             log_calls commits records
             (λ after n left. (self.new.is_ended ≡ false → left ≡ [])
             × AreImaged self.new.imaged.items (reverse (changes_of after))))
-            × LeavesCommit cut calls commits (start + 1 + length commits) changes.now
-            self.new.is_ended
-            result (pages_in g.steps) g.commits }
+            × LeavesCommit self.old.pool.core.parameters.size cut calls commits
+            (start + 1 + length commits) changes.now self.new.is_ended result
+            (pages_in g.steps) g.commits }
+        ensures passes { GivesBack self.old.pool self.new.pool }
     {
         if self.is_ended || self.log.is_ended {
             return Err(TableFault::Log(LogFault::Ended));
@@ -355,6 +364,7 @@ impl<S: LogStore<P>, P: Port> Table<S, P> {
             pending) }
         ensures log { OnOk result (self.new.log ≡ self.old.log) }
         ensures kept { KeepsMarks self.old self.new }
+        ensures passes { KeepsPasses self.old.pool self.new.pool }
     {
         let flushed = self.pool.flush_all(rt);
         self.pool.core().keeps_the_rules();
@@ -401,6 +411,7 @@ impl<S: LogStore<P>, P: Port> Table<S, P> {
         ensures kept { OnErr result (self.new.imaged.items ≡ self.old.imaged.items) }
         ensures sizes { spare.old.size ≢ self.old.log.size → self.old.is_ended ≡ false →
             (result ≡ Err (Log OtherSize)) × (self.new ≡ self.old) × (spare.new ≡ spare.old) }
+        ensures passes { KeepsPasses self.old.pool self.new.pool }
     {
         if self.is_ended {
             return Err(TableFault::Log(LogFault::Ended));

@@ -16,7 +16,6 @@ use Rattle.bp_trail.proofs.Crashes.{checkpoint}
 use Rattle.bp_trail.proofs.Lists.{some-append, some-filter}
 use Rattle.bp_shared.specs.Telling.{GoesOnFrom, IsListOf}
 use Rattle.bp_workers.specs.Sharing.{AgreesSoFar}
-use Rattle.tests_workers.specs.declared.receipts.Log.{Log}
 use Rattle.tests_workers.specs.Receipts.{writes_under, HasWrites, HasItsRecord, HaveTheirRecords, RedoMayBegin}
 
 stays : (seen later : Trail) (lsn : ℕ) → IsTrue (some (writes_under lsn) seen) → GoesOnFrom seen later → IsTrue (some (writes_under lsn) later)
@@ -28,8 +27,8 @@ pub all_stay : (last : ℕ) (seen later : Trail) → HasWrites last seen → Goe
 all_stay last seen later each on lsn some_lsn few = stays seen later lsn (each lsn some_lsn few) on
 
 -- of a log whose receipt saw the older part of a trail
-pub all_so_far : (log : Log) (past : Trail) → AgreesSoFar (λ (l : Log) seen. HasWrites l.last seen) log past → HasWrites log.last past
-all_so_far log past a = all_stay log.last a.seen past a.agrees_with a.older
+pub all_so_far : {S : Type 0} (last_of : S → ℕ) (log : S) (past : Trail) → AgreesSoFar (λ l seen. HasWrites (last_of l) seen) log past → HasWrites (last_of log) past
+all_so_far last_of log past a = all_stay (last_of log) a.seen past a.agrees_with a.older
 
 -- the write that the client's list has last
 pub told_last : (start seen : Trail) (client writer pass page offset : ℕ) (bytes : List ℕ) (lsn : ℕ) (said rest : Trail) → IsListOf start seen client said → said ≡ by writer (Write pass page offset bytes lsn) Done ∷ rest → IsTrue (some (writes_under lsn) seen)

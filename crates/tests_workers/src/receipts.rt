@@ -185,7 +185,6 @@ fn hands<R: Abort + AllocGlobal>(rt: &R) -> Vec<Hand> {
 }
 
 /// Runs client 0 and three clients that write. The log comes back, and the trail has the write of each of its records.
-#[tactic(auto, using(crate::proofs::WritesSeen::all_so_far))]
 fn run_hands<R: Abort + AllocGlobal + Threads + Wait + Sync>(rt: &R) -> (Run<MemPort, Hand>, Log)
     ensures { HasWrites result.1.last result.0.core.past }
 {

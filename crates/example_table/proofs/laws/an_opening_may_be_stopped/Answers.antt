@@ -1,8 +1,17 @@
+use Rattle.std.proofs.Common.{◌+◌, length}
+use Rattle.example_log.proofs.Moments.{at-moment}
+use Rattle.example_table.specs.Opening.{IsOpening, again_of}
+use Rattle.example_table.proofs.Stopping.{opening-mended}
 use Rattle.example_table.proofs.Openings.{brings-leave, redoing, beginning, begins-before, left-is, settled-long, settled-synced-before, settled-written-before, wiping-before}
 use Rattle.example_table.proofs.laws.an_opening_may_be_stopped.Goals as goal
 
 pub returns-clause-seen : goal.returns-clause-seen
 returns-clause-seen c = brings-leave
+
+pub returns-clause-within : goal.returns-clause-within
+returns-clause-within c = λ tears device wanted seen first left table newer older newer_file file left_newer left_older begun last changes newer_before before steps later so_far is each e within m k honest leaves size newer_long newer_left well long below_synced below_written older_left tells.
+    opening-mended tears device wanted seen first left table newer older newer_file file left_newer left_older begun last changes newer_before before so_far is
+    (at-moment (IsOpening device (again_of is) table changes (last + 1) (length file)) steps later so_far each e) within m k honest leaves size newer_long newer_left well long below_synced below_written older_left tells
 
 pub returns-clause-redoing : goal.returns-clause-redoing
 returns-clause-redoing c = λ tears pages size wanted seen first left table newer older left_newer left_older begun last changes done calls later so_far is settled below m k honest recovers e leaves.

@@ -17,13 +17,13 @@ use Rattle.example_table.proofs.table.Table.commit.Goals as goal
 pub returns-then-self-clause-goes : goal.returns-then-self-clause-goes
 returns-then-self-clause-goes g c = λ table cut file start records synced calls log_calls commits is known.
     stays-so g.S.LogStore.reads g.S.LogStore.writes g.S.LogStore.syncs g.P.Port.read_gives g.P.Port.write_gives g.P.Port.sync_gives table cut file start calls log_calls synced commits records [] c.args.self.now.pool c.args.self.now.log is _ ((λ e. refl), known)
-    (LeavesCommit cut calls commits (start + 1 + length commits) c.args.changes.now c.args.self.now.is_ended (Err (Log Ended)))
+    (LeavesCommit c.args.self.now.pool.core.parameters.size cut calls commits (start + 1 + length commits) c.args.changes.now c.args.self.now.is_ended (Err (Log Ended)))
     (says-none cut calls commits (start + 1 + length commits) c.args.changes.now c.args.self.now.is_ended (Err (Log Ended)) refl [] commits refl)
 
 pub returns-in_err-check-clause-goes : goal.returns-in_err-check-clause-goes
 returns-in_err-check-clause-goes g c = λ table cut file start records synced calls log_calls commits is known.
     stays-so g.S.LogStore.reads g.S.LogStore.writes g.S.LogStore.syncs g.P.Port.read_gives g.P.Port.write_gives g.P.Port.sync_gives table cut file start calls log_calls synced commits records [] c.args.self.now.pool c.args.self.now.log is _ ((λ e. refl), known)
-    (LeavesCommit cut calls commits (start + 1 + length commits) c.args.changes.now c.args.self.now.is_ended c.from_residual.result)
+    (LeavesCommit c.args.self.now.pool.core.parameters.size cut calls commits (start + 1 + length commits) c.args.changes.now c.args.self.now.is_ended c.from_residual.result)
     (says-none cut calls commits (start + 1 + length commits) c.args.changes.now c.args.self.now.is_ended c.from_residual.result c.from_residual.ensures.0 [] commits refl)
 
 pub returns-in-Err-clause-goes : goal.returns-in-Err-clause-goes
@@ -31,7 +31,7 @@ returns-in-Err-clause-goes g c = λ table cut file start records synced calls lo
     (let f = c.in-Err.ensures.goes table cut file start records synced calls log_calls commits is known in
     so-so g.S.LogStore.reads g.S.LogStore.writes g.S.LogStore.syncs g.P.Port.read_gives g.P.Port.write_gives g.P.Port.sync_gives table cut file start calls log_calls c.args.self.now.pool c.whole_changes.new.self.pool c.args.self.now.log c.whole_changes.new.self.log (λ after n left. (after ≡ commits) × (left ≡ [])) _
     (λ cs n left p. ((λ e. p.1), imaged-same c.whole_changes.new.self.imaged.items c.args.self.now.imaged.items (reverse (changes_of commits)) (reverse (changes_of cs)) c.in-Err.ensures.kept.0 (ap (λ (x : List (List LogRecord)). reverse (changes_of x)) p.0) known)) f.0
-    (LeavesCommit cut calls commits (start + 1 + length commits) c.args.changes.now c.whole_changes.new.self.log.is_ended (Err c.in-Err.fault))
+    (LeavesCommit c.args.self.now.pool.core.parameters.size cut calls commits (start + 1 + length commits) c.args.changes.now c.whole_changes.new.self.log.is_ended (Err c.in-Err.fault))
     (says-none cut calls commits (start + 1 + length commits) c.args.changes.now c.whole_changes.new.self.log.is_ended (Err c.in-Err.fault) refl (pages_in f.0.steps) f.0.commits f.0.is_so.0))
 
 pub returns-clause-goes : goal.returns-clause-goes
@@ -45,11 +45,11 @@ returns-clause-goes g c = λ table cut file start records synced calls log_calls
     (subst (λ (x : Parameters). FirstsAreFull x.size (reverse made ++ reverse (changes_of commits))) (sym f.0.parameters) whole.full) in
     let has = commit-makes cut c.args.self.now.pool.core.parameters.size l ((pages_in f.0.steps) ++ calls) commits c.args.changes.now made whole in
     let k = then-so g.S.LogStore.reads g.S.LogStore.writes g.S.LogStore.syncs g.P.Port.read_gives g.P.Port.write_gives g.P.Port.sync_gives table cut file start calls log_calls c.args.self.now.pool c.whole_changes.new.self.pool c.commit_whole.new.self.pool c.args.self.now.log c.whole_changes.new.self.log c.commit_whole.new.self.log _ _ f.0 commits (sym f.0.is_so.0) h
-    (LeavesCommit cut calls commits l c.args.changes.now c.commit_whole.new.self.is_ended c.commit_whole.result)
+    (LeavesCommit c.args.self.now.pool.core.parameters.size cut calls commits l c.args.changes.now c.commit_whole.new.self.is_ended c.commit_whole.result)
     (says-more cut (pages_in h.steps) (pages_in f.0.steps) calls commits h.commits l c.args.changes.now made c.commit_whole.new.self.is_ended c.commit_whole.result has (h.is_so.0) h.is_so.2 h.is_so.3) in
     so-so g.S.LogStore.reads g.S.LogStore.writes g.S.LogStore.syncs g.P.Port.read_gives g.P.Port.write_gives g.P.Port.sync_gives table cut file start calls log_calls c.args.self.now.pool c.commit_whole.new.self.pool c.args.self.now.log c.commit_whole.new.self.log _ _
     (λ cs n left p. (p.1, images c.commit_whole.new.self.imaged.items c.whole_changes.new.self.imaged.items c.args.self.now.imaged.items l made commits cs c.in-Ok.ensures.kept.0 known c.commit_whole.ensures.noted p.0)) k.0
-    (LeavesCommit cut calls commits l c.args.changes.now c.commit_whole.new.self.is_ended c.commit_whole.result) k.1)
+    (LeavesCommit c.args.self.now.pool.core.parameters.size cut calls commits l c.args.changes.now c.commit_whole.new.self.is_ended c.commit_whole.result) k.1)
   where
     images : (new mid old : List Bool) (lsn : ℕ) (made : List LogRecord) (commits after : List (List LogRecord)) → mid ≡ old → AreImaged old (reverse (changes_of commits))
         → ((p : ℕ) → slice_index_or new p false ≡ true → (slice_index_or mid p false ≡ true) ⊎ (some (is_of p) made ≡ true))

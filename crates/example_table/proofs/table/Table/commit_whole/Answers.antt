@@ -58,6 +58,7 @@ loop-change-init g c = (
             (firsts-made c.args.self.now.pool.core.parameters.size c.in-Ok.lsn c.args.changes.now (reverse (changes_of commits)) firsts)
             (weaken (g.S.LogStore.reads c.port-2.result.now) (g.S.LogStore.writes c.port-2.result.now) (g.S.LogStore.syncs c.port-2.result.now) c.args.self.now.log c.append.new.self file start log_calls _ _ (λ x n p. (p.0, p.1.1 ∙ ap (λ (t : List ℕ). log_of table commits ++ t ∷ []) (c.deref.ensures.value ∙ told.0))) life) (refl, refl),
       )),
+  λ e. e,
 )
 
 pub returns-in-Err-put-clause-goes : goal.returns-in-Err-put-clause-goes
@@ -88,6 +89,7 @@ loop-change-preserved g c = (
         table-then g.S.LogStore.reads g.S.LogStore.writes g.S.LogStore.syncs g.P.Port.read_gives g.P.Port.write_gives g.P.Port.sync_gives table cut file start c.args.self.now.pool c.loop-change.self.pool c.put.new.self.pool c.args.self.now.log c.loop-change.self.log c.put.new.self.log calls log_calls _ _ t
             (table-weaken g.S.LogStore.reads g.S.LogStore.writes g.S.LogStore.syncs g.P.Port.read_gives g.P.Port.write_gives g.P.Port.sync_gives table cut file start _ _ _ _ ((pages_in t.steps) ++ calls) ((log_in t.steps) ++ log_calls) _ _ (λ cs n left q. (q.0 ∙ t.is_so.0, q.2)) p),
       )),
+  λ e. c.in-Ok-put.ensures.passes (c.loop-change.invariant.3 e),
 )
 
 pub returns-clause-goes : goal.returns-clause-goes
@@ -96,3 +98,9 @@ returns-clause-goes g c = λ table cut file start records synced calls log_calls
     let none = ap (λ (t : List LogRecord). reverse (map (under c.in-Ok.lsn) t)) (drop_all c.loop-change.change-index c.args.changes.now c.loop-change-test.false) in
     table-weaken g.S.LogStore.reads g.S.LogStore.writes g.S.LogStore.syncs g.P.Port.read_gives g.P.Port.write_gives g.P.Port.sync_gives table cut file start _ _ _ _ calls log_calls _ _
     (λ cs n left q. (inr (q.0 ∙ ap (λ (n : ℕ). commits ++ map (under n) c.args.changes.now ∷ []) v.0), (λ e. q.1 ∙ none), tt, (v.0, q.0))) v.1)
+
+pub returns-in-Err-put-clause-passes : goal.returns-in-Err-put-clause-passes
+returns-in-Err-put-clause-passes g c = λ e. c.put.ensures.passes (c.loop-change.invariant.3 e)
+
+pub returns-clause-passes : goal.returns-clause-passes
+returns-clause-passes g c = c.loop-change.invariant.3

@@ -8,7 +8,7 @@ returns-in-Ok-clause-goes g c = λ table cut file start records synced calls log
     table-weaken g.S.LogStore.reads g.S.LogStore.writes g.S.LogStore.syncs g.P.Port.read_gives g.P.Port.write_gives g.P.Port.sync_gives table cut file start _ _ _ _ calls log_calls _ _ (λ cs n left p. (p.0, p.1)) (c.fix.ensures.goes table cut file start records synced calls log_calls commits pending is)
 
 pub returns-in-Err : goal.returns-in-Err
-returns-in-Err g c = record { goes = λ table cut file start records synced calls log_calls commits pending is. table-weaken g.S.LogStore.reads g.S.LogStore.writes g.S.LogStore.syncs g.P.Port.read_gives g.P.Port.write_gives g.P.Port.sync_gives table cut file start _ _ _ _ calls log_calls _ _ (λ cs n left p. (p.0, p.1)) (c.fix.ensures.goes table cut file start records synced calls log_calls commits pending is); page = tt; known = tt; alive = λ e. tt; kept = c.fix.ensures.kept }
+returns-in-Err g c = record { goes = λ table cut file start records synced calls log_calls commits pending is. table-weaken g.S.LogStore.reads g.S.LogStore.writes g.S.LogStore.syncs g.P.Port.read_gives g.P.Port.write_gives g.P.Port.sync_gives table cut file start _ _ _ _ calls log_calls _ _ (λ cs n left p. (p.0, p.1)) (c.fix.ensures.goes table cut file start records synced calls log_calls commits pending is); page = tt; known = tt; alive = λ e. tt; kept = c.fix.ensures.kept; passes = c.in-Err.ensures.passes }
 
 pub returns-in_err-make_durable-clause-goes : goal.returns-in_err-make_durable-clause-goes
 returns-in_err-make_durable-clause-goes g c = λ table cut file start records synced calls log_calls commits pending is.

@@ -1,8 +1,10 @@
 use Rattle.example_log.specs.Moments.{log_in, pages_in}
-use Rattle.std.proofs.Common.{◌≡◌, ◌++◌, ℕ, List, inl, inr, refl, subst, ◌∙◌}
+use Rattle.std.proofs.Common.{◌≡◌, ◌++◌, ◌∷◌, ap, ℕ, List, inl, inr, refl, subst, ◌∙◌}
 use Rattle.bp_core.specs.Outcomes.{Adds}
 use Rattle.bp_trail.specs.declared.entries.Call.TheVariants.{Write}
 use Rattle.bp_trail.specs.declared.entries.Reply.TheVariants.{Done}
+use Rattle.bp_trail.specs.Event.{Grant, grant}
+use Rattle.example_table.proofs.Passes.{part-passes, unfix-passes}
 use Rattle.example_table.specs.TableCalls.{under}
 use Rattle.example_table.proofs.Tabling.{table-then, table-weaken, pool-same, pool-writes, pool-unfixes, part-written, part-refused, ok-not}
 use Rattle.example_table.proofs.table.Table.put.Goals as goal
@@ -35,3 +37,15 @@ returns-clause-goes g c = λ older table cut file start records synced calls log
     table-then g.S.LogStore.reads g.S.LogStore.writes g.S.LogStore.syncs g.P.Port.read_gives g.P.Port.write_gives g.P.Port.sync_gives table cut file start c.args.self.now.pool c.write_from-written.new.self c.unfix.new.self c.args.self.now.log c.fix_page.new.self.log c.fix_page.new.self.log calls log_calls _ _ w
     (pool-unfixes g.S.LogStore.reads g.S.LogStore.writes g.S.LogStore.syncs g.P.Port.read_gives g.P.Port.write_gives g.P.Port.sync_gives table cut file start w.synced ((pages_in w.steps) ++ calls) ((log_in w.steps) ++ log_calls) w.commits w.durable w.pending c.write_from-written.new.self c.fix_page.new.self.log w.is c.unfix.new.self _ c.in_ok-pass.pass c.unfix.result c.unfix.ensures.outcome c.unfix.ensures.port.0
     (w.is_so.0, inr w.is_so.1, w.is_so.1)))
+
+pub returns-in_err-written-clause-passes : goal.returns-in_err-written-clause-passes
+returns-in_err-written-clause-passes g c = λ e.
+    unfix-passes c.write_from-written.new.self.core c.unfix.new.self.core c.in_ok-pass.pass c.unfix.result
+    (part-passes c.fix_page.new.self.pool c.write_from-written.new.self c.in_ok-pass.pass c.args.change.now.offset c.bytes-bytes.result.now c.new.result c.write_from-written.result c.write_from-written.ensures.outcome
+    ∙ c.in_ok-pass.ensures.passes ∙ ap (λ (gs : List Grant). grant c.in_ok-pass.pass.client c.in_ok-pass.pass.page c.in_ok-pass.pass.serial ∷ gs) e) c.unfix.ensures.outcome
+
+pub returns-clause-passes : goal.returns-clause-passes
+returns-clause-passes g c = λ e.
+    unfix-passes c.write_from-written.new.self.core c.unfix.new.self.core c.in_ok-pass.pass c.unfix.result
+    (part-passes c.fix_page.new.self.pool c.write_from-written.new.self c.in_ok-pass.pass c.args.change.now.offset c.bytes-bytes.result.now c.new.result c.write_from-written.result c.write_from-written.ensures.outcome
+    ∙ c.in_ok-pass.ensures.passes ∙ ap (λ (gs : List Grant). grant c.in_ok-pass.pass.client c.in_ok-pass.pass.page c.in_ok-pass.pass.serial ∷ gs) e) c.unfix.ensures.outcome

@@ -1,9 +1,11 @@
 use Rattle.example_log.specs.Moments.{log_in, pages_in}
-use Rattle.std.proofs.Common.{◌≡◌, ◌++◌, [], reverse, refl, ap}
+use Rattle.std.proofs.Common.{◌≡◌, ◌∙◌, ◌++◌, ◌∷◌, [], List, reverse, refl, ap}
 use Rattle.std.specs.Prelude.{IfOk}
 use Rattle.bp_trail.specs.Parameters.{Parameters}
 use Rattle.example_log.specs.Commits.{changes_of}
 use Rattle.example_log.proofs.LogFiles.{err-if}
+use Rattle.bp_trail.specs.Event.{Grant, grant}
+use Rattle.example_table.proofs.Passes.{unfix-passes}
 use Rattle.example_table.specs.Images.{IsWhole}
 use Rattle.example_table.proofs.Tabling.{pool-unfixes, so-is, then-so}
 use Rattle.example_table.proofs.Wholes.{whole-change-later, whole-made}
@@ -23,3 +25,7 @@ returns-clause-goes g c = λ table cut file start records synced calls log_calls
     (whole-made table cut file start f.synced ((pages_in f.steps) ++ calls) ((log_in f.steps) ++ log_calls) commits f.durable c.fix_page.new.self.pool c.fix_page.new.self.log
     (so-is g.S.LogStore.reads g.S.LogStore.writes g.S.LogStore.syncs g.P.Port.read_gives g.P.Port.write_gives g.P.Port.sync_gives table cut file start calls log_calls commits c.args.self.now.pool c.fix_page.new.self.pool c.args.self.now.log c.fix_page.new.self.log f)
     c.in_ok-pass.pass c.in_ok-pass.ensures.known c.args.change.now c.in_ok-pass.ensures.page c.args.self.now.pool.core.parameters.size (ap (λ (x : Parameters). x.size) f.parameters) c.whole_by-made.result c.whole_by-made.ensures.whole c.whole_by-made.ensures.long c.whole_by-made.ensures.fits)))
+
+pub returns-clause-passes : goal.returns-clause-passes
+returns-clause-passes g c = λ e.
+    unfix-passes c.fix_page.new.self.pool.core c.unfix.new.self.core c.in_ok-pass.pass c.unfix.result (c.in_ok-pass.ensures.passes ∙ ap (λ (gs : List Grant). grant c.in_ok-pass.pass.client c.in_ok-pass.pass.page c.in_ok-pass.pass.serial ∷ gs) e) c.unfix.ensures.outcome

@@ -20,6 +20,7 @@ loop-change-init g c = (
   ),
   refl,
   refl,
+  λ e. e,
 )
 
 pub returns-in_err-whole-clause-goes : goal.returns-in_err-whole-clause-goes
@@ -49,6 +50,7 @@ loop-change-preserved g c = elim c.if-is_known.branch [
         )),
     c.loop-change.invariant.1,
     c.loop-change.invariant.2,
+    c.loop-change.invariant.3,
   )
   | else-is_known+in_ok-whole+in_ok-push-2 w ↦ rw (w.self-is, w.made-is) (
     λ table cut file start records synced calls log_calls commits is known.
@@ -63,6 +65,7 @@ loop-change-preserved g c = elim c.if-is_known.branch [
         (subst (λ ms. (slice_index_or c.loop-change.self.imaged.items c.change-item.result.page false || some (is_of c.change-item.result.page) ms) ≡ false) c.deref.ensures.value (sym c.is_known.ensures ∙ w.if-is_known.false)))),
     w.whole.ensures.kept.0 ∙ c.loop-change.invariant.1,
     w.whole.ensures.kept.1 ∙ c.loop-change.invariant.2,
+    λ e. w.whole.ensures.passes (c.loop-change.invariant.3 e),
   )
 ]
 
@@ -70,3 +73,18 @@ pub returns-clause-goes : goal.returns-clause-goes
 returns-clause-goes g c = λ table cut file start records synced calls log_calls commits is known.
     (let t = c.loop-change.invariant.0 table cut file start records synced calls log_calls commits is known in
     (t.0, subst (λ (xs : List LogRecord). AreWhole c.args.self.now.pool.core.parameters.size ((pages_in t.0.steps) ++ calls) (reverse (changes_of (cut.commits ++ commits))) (reverse (changes_of commits)) xs c.loop-change.made.items) (all-taken c.loop-change.change-index c.args.changes.now c.loop-change-test.false) t.1))
+
+pub returns-in_err-copy_of-clause-passes : goal.returns-in_err-copy_of-clause-passes
+returns-in_err-copy_of-clause-passes g c = c.loop-change.invariant.3
+
+pub returns-in_err-push-clause-passes : goal.returns-in_err-push-clause-passes
+returns-in_err-push-clause-passes g c = c.loop-change.invariant.3
+
+pub returns-in_err-whole-clause-passes : goal.returns-in_err-whole-clause-passes
+returns-in_err-whole-clause-passes g c = λ e. c.whole.ensures.passes (c.loop-change.invariant.3 e)
+
+pub returns-in_err-push-2-clause-passes : goal.returns-in_err-push-2-clause-passes
+returns-in_err-push-2-clause-passes g c = λ e. c.whole.ensures.passes (c.loop-change.invariant.3 e)
+
+pub returns-clause-passes : goal.returns-clause-passes
+returns-clause-passes g c = c.loop-change.invariant.3

@@ -7,6 +7,7 @@ use Rattle.example_log.specs.Commits.{changes_of}
 use Rattle.example_log.specs.Disk.{DeviceCall}
 use Rattle.example_log.specs.Files.{FileCall}
 use Rattle.example_table.specs.Images.{AreImaged, AreWhole}
+use Rattle.example_table.specs.Passes.{GivesBack}
 use Rattle.example_table.specs.Tables.{Cut}
 use Rattle.example_table.specs.TableCalls.{IsTable, TableGoes}
 use Rattle.example_table.proofs.table.Table.whole_changes.Given as goal
@@ -19,3 +20,4 @@ invariant-loop-change g l =
     (λ after n left. (after ≡ commits) × (left ≡ [])))
     × AreWhole l.fn.self.pool.core.parameters.size ((pages_in t.steps) ++ calls) (reverse (changes_of (cut.commits ++ commits))) (reverse (changes_of commits)) (take l.change-index l.changes) l.made.items)
     × (l.self.imaged.items ≡ l.fn.self.imaged.items) × (l.self.is_ended ≡ l.fn.self.is_ended)
+    × GivesBack l.fn.self.pool l.self.pool
