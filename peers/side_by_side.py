@@ -16,9 +16,10 @@ K is 2, and the correlated period is an eighth of the frames in fixes; it is tol
 fixes. Where pages are evicted a second row has no period, beside the same figures of Berkeley DB. Each pool is in its
 steady state: eight fixes for each frame come before those that count.
 
-With `threads` it measures 1, 2 and 4 threads over one pool, whose trail is only counted, and then cut as they go. Each
-number is in uses a second of the wall clock, of all threads. The peer is peers/c/bench.c with DB_THREAD, whose numbers
-are drawn in the same way.
+With `threads` it measures 1, 2 and 4 threads over one pool, whose trail is only counted, and then cut as they go, and
+over a pool of 1, 4 and 16 parts, whose trails are only counted, with as many frames in all. Each number is in uses a
+second of the wall clock, of all threads. The peer is peers/c/bench.c with DB_THREAD, whose numbers are drawn in the
+same way.
 """
 import os
 import re
@@ -45,6 +46,7 @@ PEER = [
 # The rows of bench_threads for each number of threads: a name, the period in ticks, and what peers/c/bench.c does
 # with how many frames.
 THREADS = (1, 2, 4)
+PARTS = (1, 4, 16)
 USES = [
     ("fix and unfix, 64 hot pages", 32, "nothing", 64),
     ("look, 64 hot pages", 32, "look", 64),
@@ -126,6 +128,7 @@ def in_threads(rounds, pages, folder):
     subprocess.run(["cc", "-std=gnu11", "-O3", "-DBERKELEY", f"{TOP}/peers/c/bench.c", "-ldb", "-lpthread", "-o", bench],
                    check=True)
     kinds = {"only counted": ["silent"], "cut as they go": []}
+    kinds.update({f"in {n} part{'s' * (n > 1)}, only counted": [str(n)] for n in PARTS})
     peer, runs = [], {title: [] for title in kinds}
     for _ in range(rounds):
         peer.append(theirs_in_threads(bench, folder))

@@ -1,8 +1,10 @@
 //! Times client threads over one shared pool of 4,096 frames and a page file, whose path is the first argument. The pool
-//! is cut as the threads go, or only counts its entries if a second argument is `silent`. Without arguments four threads
-//! use a pool of each kind for a moment, over pages in memory.
+//! is cut as the threads go, or only counts its entries if a second argument is `silent`. If the second argument is a
+//! number it only counts them too, and has so many parts, 1 to 64. Without arguments four threads use a pool of each
+//! kind for a moment, over pages in memory.
 #![tactic(auto)]
 
+mod parted;
 mod threads;
 
 use anyhow::Context;
@@ -26,6 +28,9 @@ fn main(rt: HostRuntime) -> Result<(), anyhow::Error> {
     match kind.as_deref() {
         None => threads::time_threads::<RecordingKeeper>(&rt, path.as_str()),
         Some("silent") => threads::time_threads::<SilentKeeper>(&rt, path.as_str()),
-        _ => None.context("no such pool"),
+        Some(parts) => {
+            let parts = parts.parse::<u8>().ok().context("no such pool")?;
+            parted::time_parts(&rt, path.as_str(), parts)
+        }
     }
 }

@@ -19,15 +19,15 @@ use std::thread::Threads;
 use std::time::{Clock, Duration};
 use std::{mem, thread};
 
-const SIZE: usize = 1024;
+pub(crate) const SIZE: usize = 1024;
 
-const FRAMES: usize = 4096;
+pub(crate) const FRAMES: usize = 4096;
 
 /// The clock moves on once in so many fixes of a thread.
-const FIXES_A_TICK: u64 = 16;
+pub(crate) const FIXES_A_TICK: u64 = 16;
 
 /// The calls of a thread between two looks at the memory of its list.
-const CALLS_A_PART: u64 = 1024;
+pub(crate) const CALLS_A_PART: u64 = 1024;
 
 /// So many calls for each frame come before those that are timed, of all threads together.
 const CALLS_BEFORE: u64 = 8;
@@ -46,11 +46,14 @@ pub(crate) enum Use {
 }
 
 /// What each thread does: the use, the pages, the correlated period in ticks, and the parts that are timed.
-type Work = (Use, u64, u64, u64);
+pub(crate) type Work = (Use, u64, u64, u64);
+
+/// How many threads use the pool at once, one after the other.
+pub(crate) const THREADS: [u64; 3] = [1, 2, 4];
 
 /// Hits of hot pages and of all pages that fit, and pages of which four times as many are used as there are frames, with
 /// a period of an eighth of the frames in fixes and with none.
-const ROWS: [Work; 6] = [
+pub(crate) const ROWS: [Work; 6] = [
     (Use::Nothing, 64, 32, 1024),
     (Use::Look, 64, 32, 1024),
     (Use::Look, 4096, 32, 1024),
@@ -145,7 +148,7 @@ type Own<N, P, K> = Client<N, P, K>;
 
 /// One thread's work, and how long it took.
 #[derive(Drop)]
-struct Caller<C: Clock + Drop> {
+pub(crate) struct Caller<C: Clock + Drop> {
     alloc: Global,
     clock: C,
     meeting: Arc<Meeting, Global>,
@@ -154,9 +157,9 @@ struct Caller<C: Clock + Drop> {
     /// The state of the generator of random numbers.
     state: u64,
     /// The calls that were not refused.
-    done: u64,
-    began: Duration,
-    ended: Duration,
+    pub(crate) done: u64,
+    pub(crate) began: Duration,
+    pub(crate) ended: Duration,
     /// The lists that were cut last. The next cuts leave their memory to the session's list and to the trail.
     list: Vec<Entry>,
     trail: Vec<Entry>,
@@ -172,22 +175,20 @@ impl<C: Clock + Drop> Caller<C> {
     )
         ensures client { own.new.session.client ≡ own.old.session.client }
     {
-        self.state = next(self.state);
-        let (what, pages, _, _) = self.work;
-        let Some(page) = own.port.geometry().page((self.state >> 33) % pages.max(1)) else {
+        let Some(page) = own.port.geometry().page(self.draw()) else {
             return;
         };
         let Ok(pass) = pool.fix(rt, &mut own.session, &mut own.port, page) else {
             return;
         };
-        let used = match what {
+        let used = match self.what() {
             Use::Nothing => Ok(()),
             Use::Look => {
                 let mut bytes = [0; 16];
                 pool.read_into(rt, &mut own.session, &pass, 0, &mut bytes)
             }
             Use::Update => {
-                let bytes = self.state.to_le_bytes();
+                let bytes = self.drawn().to_le_bytes();
                 pool.write_from(rt, &mut own.session, &pass, 0, &bytes, Lsn::new(0))
             }
         };
@@ -195,8 +196,35 @@ impl<C: Clock + Drop> Caller<C> {
             let _: PassNote = pass.note();
         }
         if used.is_ok() {
-            self.done = self.done.wrapping_add(1);
+            self.count();
         }
+    }
+
+    /// Draws the number of the next page.
+    pub(crate) fn draw(&mut self) -> u64 {
+        self.state = next(self.state);
+        let (_, pages, _, _) = self.work;
+        (self.state >> 33) % pages.max(1)
+    }
+
+    /// Returns the number that was drawn last.
+    pub(crate) fn drawn(&self) -> u64 {
+        self.state
+    }
+
+    /// Returns what is done with each page.
+    pub(crate) fn what(&self) -> Use {
+        self.work.0
+    }
+
+    /// Returns how many parts of the work are timed.
+    pub(crate) fn parts(&self) -> u64 {
+        self.work.3
+    }
+
+    /// Counts a use that was not refused.
+    pub(crate) fn count(&mut self) {
+        self.done = self.done.wrapping_add(1);
     }
 
     /// Makes the calls of a part, and lets go of the entries of the client's list.
@@ -218,7 +246,7 @@ impl<C: Clock + Drop> Caller<C> {
     }
 
     /// The parts that come before those that are timed.
-    fn parts_before(&self) -> u64 {
+    pub(crate) fn parts_before(&self) -> u64 {
         let calls = CALLS_BEFORE * FRAMES as u64 / self.threads.max(1);
         calls / CALLS_A_PART
     }
@@ -228,20 +256,20 @@ impl<C: Clock + Drop> Caller<C> {
     }
 
     /// Notes that this thread's pages are there.
-    fn settle(&mut self) {
+    pub(crate) fn settle(&mut self) {
         self.meeting.settled.fetch_add(1, Ordering::SeqCst);
     }
 
-    fn have_settled(&self) -> bool {
+    pub(crate) fn have_settled(&self) -> bool {
         self.meeting.settled.load(Ordering::SeqCst) >= self.threads
     }
 
-    fn begin(&mut self) {
+    pub(crate) fn begin(&mut self) {
         self.done = 0;
         self.began = self.now();
     }
 
-    fn end(&mut self) {
+    pub(crate) fn end(&mut self) {
         self.ended = self.now();
         self.meeting.ended.fetch_add(1, Ordering::SeqCst);
     }
@@ -278,8 +306,7 @@ impl<P: Port, K: Tended, C: Clock + Drop> Worker<P, K> for Caller<C> {
             thread::yield_now();
         }
         self.begin();
-        let (_, _, _, parts) = self.work;
-        'parts: for _ in 0..parts {
+        'parts: for _ in 0..self.parts() {
             self.part(rt, pool, own);
         }
         self.end();
@@ -305,8 +332,7 @@ impl<P: Port, K: Tended, C: Clock + Drop> Worker<P, K> for Caller<C> {
             self.cut_trail(rt, pool, upkeep);
         }
         self.begin();
-        let (_, _, _, parts) = self.work;
-        'parts: for _ in 0..parts {
+        'parts: for _ in 0..self.parts() {
             self.part(rt, pool, own);
             self.cut_trail(rt, pool, upkeep);
         }
@@ -321,7 +347,7 @@ impl<P: Port, K: Tended, C: Clock + Drop> Worker<P, K> for Caller<C> {
 }
 
 /// Makes a caller for each thread.
-fn callers<R: Runtime<A = Global> + Clock>(
+pub(crate) fn callers<R: Runtime<A = Global> + Clock>(
     rt: &R,
     threads: u64,
     work: Work,
@@ -402,7 +428,7 @@ pub(crate) fn time_threads<K: Kind + Tended>(
     rt: &(impl Runtime<A = Global> + Clock + Files<File = File> + Threads + Wait + Send + Sync),
     path: &str,
 ) -> Result<(), anyhow::Error> {
-    for threads in [1, 2, 4] {
+    for threads in THREADS {
         for work in ROWS {
             let (_, pages, period, parts) = work;
             let ports = file_ports(rt, path, threads)?;

@@ -1,16 +1,15 @@
 -- One part more.
-use Rattle.std.proofs.Common.{◌≡◌, ◌⊎◌, inl, inr, refl, sym, ap, ◌∙◌, subst, ℕ, zero, suc, ◌+◌, ◌<◌, ◌≤◌, All, List, [], ◌∷◌, ◌++◌, length, slice_index_or, slice_set, arith}
-use Rattle.std.specs.declared.vec.Vec.{Vec}
+use Rattle.std.proofs.Common.{◌≡◌, refl, sym, ap, ◌∙◌, subst, ℕ, zero, suc, ◌+◌, All, List, [], ◌∷◌, ◌++◌, length, arith}
 use Rattle.std.proofs.lemmas.List.Elements.{All-append, All-cons, All-nil}
 use Rattle.bp_mark.specs.Marks.{MarkName, LogEndValue}
 use Rattle.bp_trail.specs.Trail.{Trail}
 use Rattle.bp_shared.specs.Sessions.{SessionValue, new_session_of, new_sessions_of}
 use Rattle.bp_shared.specs.Taking.{TakerValue}
 use Rattle.bp_parts.specs.Logs.{AreEndsFrom}
-use Rattle.bp_parts.specs.Making.{AreRows, new_in_parts}
+use Rattle.bp_parts.specs.Making.{new_in_parts}
 use Rattle.bp_parts.specs.Parts.{AreNumbered, AreSessionsOf, PartedValue}
 use Rattle.bp_parts.specs.Places.{AtEachPlace, up_to}
-use Rattle.bp_parts.proofs.Placing.{AtPlacesFrom, below_pushed, from_first, set_below, set_above, up_to_at, up_to_each, up_to_length, up_to_more}
+use Rattle.bp_parts.proofs.Placing.{AtPlacesFrom, below_pushed, from_first, up_to_each, up_to_length, up_to_more}
 
 -- all of a list, and one more
 pub all_more : {A : Type 0} (P : A → Type 0) (xs ys : List A) (x : A) → ys ≡ xs ++ x ∷ [] → All P xs → P x → All P ys

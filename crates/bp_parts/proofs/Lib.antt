@@ -7,3 +7,5 @@ pub mod Placing
 pub mod Closing
 mod Dealing
 mod Flushing
+mod Finding
+mod Summing

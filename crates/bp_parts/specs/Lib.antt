@@ -2,6 +2,8 @@
 pub mod Parts
 pub mod Calls
 pub mod Redo
+pub mod Finding
+pub mod Sums
 pub mod Flushes
 pub mod Logs
 -- How all parts are made, and end.

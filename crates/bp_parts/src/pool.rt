@@ -12,6 +12,7 @@ use std::marker::{Brand, Model};
 use std::sync::Wait;
 
 mod checkpoint;
+mod whole_file;
 
 /// How many parts there are, which the pool and its sessions agree on. It has no functions: a program names `Brand`,
 /// and each call picks what it stands for.

@@ -22,8 +22,9 @@ pub use bp_trail::{LogRecord, redo_page, redo_record};
 
 // Ports, and page files.
 pub use bp_ports::{
-    FilePort, MemDevice, MemPort, MigrateFault, OpenFault, Port, Progress, Store, Unwatched,
-    create_page_file, geometry_of_file, migrate_watched, migrate_with,
+    FilePort, MemDevice, MemPort, MigrateFault, OpenFault, Port, Progress, Store, StripedPort,
+    Unwatched, create_page_file, create_striped_file, geometry_of_file, geometry_of_stripe,
+    migrate_watched, migrate_with,
 };
 
 // A pool with one owner, and calls that do a whole fix or flush of a core, with its reads and writes.
@@ -35,10 +36,17 @@ pub use bp_workers::{
     Upkeep, WithReceipt, Worker, fix_durably, run_sharing_workers, run_workers, run_workers_over,
 };
 
-// The shared pool that workers use, and its parts, for an engine that runs its own threads.
+// Workers over a pool in parts: shared pools side by side, each over a stripe of one file.
+pub use bp_part_workers::{PartedClient, PartedLeft, PartedRun, PartedWorker, run_parted};
+pub use bp_parts::{
+    EndRoom, EndedParts, PartCount, PartPass, Parted, PartedLog, PartedPool, PartedSession,
+    end_parts, make_parts, new_cores, new_names,
+};
+
+// The shared pool that workers use, and what it is made of, for an engine that runs its own threads.
 pub use bp_mark::{LogEnd, Mark, Reader};
 pub use bp_session_log::{Book, Room};
 pub use bp_shared::{
-    ClosedPool, LogWriter, Parts, PoolName, Receipt, Session, SharedPool, SilentPool,
+    ClosedPool, LogWriter, PartNames, Parts, PoolName, Receipt, Session, SharedPool, SilentPool,
     SilentSession, Taker, TrailRing,
 };

@@ -1,5 +1,5 @@
 -- One client more.
-use Rattle.std.proofs.Common.{◌≡◌, ◌∙◌, ◌<◌, ◌≤◌, ap, arith, refl, sym, subst, [], length, length-set, vec_capacity, vec_len}
+use Rattle.std.proofs.Common.{◌≡◌, ◌∙◌, ◌<◌, ◌≤◌, ap, arith, refl, subst, [], length, length-set, vec_capacity, vec_len}
 use Rattle.bp_parts.specs.Parts.{AreSessionsOf}
 use Rattle.bp_parts.specs.Ending.{AreEnded}
 use Rattle.bp_parts.proofs.Closing.{OwnClient, ended_more, ended_none, stands_each}

@@ -1,5 +1,5 @@
 -- The clients whose sessions ended, and those that are left.
-use Rattle.std.proofs.Common.{◌≡◌, ◌+◌, ◌<◌, ◌≤◌, ℕ, [], length, slice_index_or, vec_capacity, vec_len}
+use Rattle.std.proofs.Common.{◌≡◌, ◌+◌, ◌<◌, ◌≤◌, ℕ, [], length, slice_index_or, vec_capacity}
 use Rattle.std.specs.Vec.Iter.{into_iter_items}
 use Rattle.bp_parts.specs.Ending.{AreClosed, AreEnded}
 use Rattle.bp_parts.proofs.Closing.{OwnClient}

@@ -1,5 +1,5 @@
 -- One session more ended, in its part.
-use Rattle.std.proofs.Common.{◌≡◌, ◌∙◌, ◌<◌, ap, arith, refl, sym, subst, [], length, length-set}
+use Rattle.std.proofs.Common.{◌≡◌, ◌∙◌, ◌<◌, ap, arith, refl, sym, subst, length, length-set}
 use Rattle.bp_shared.specs.Closing.{ClosedPartValue}
 use Rattle.bp_shared.specs.Telling.{IsListOf}
 use Rattle.bp_parts.specs.Ending.{EndsIn}

@@ -1,5 +1,5 @@
 -- One client more has its session.
-use Rattle.std.proofs.Common.{◌≡◌, ◌∙◌, ◌+◌, ◌<◌, ap, arith, refl, sym, [], length, length-set, vec_len}
+use Rattle.std.proofs.Common.{◌≡◌, ◌∙◌, ◌+◌, ◌<◌, ap, arith, refl, [], length, length-set, vec_len}
 use Rattle.bp_shared.specs.Sessions.{new_session_of}
 use Rattle.bp_parts.specs.Making.{new_in_parts}
 use Rattle.bp_parts.proofs.Dealing.{row_more, sessions_at, sessions_from}

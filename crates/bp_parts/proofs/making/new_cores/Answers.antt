@@ -1,10 +1,9 @@
 -- One core more, or why there is none.
-use Rattle.std.proofs.Common.{◌≡◌, arith, ap, ◌∙◌, sym, subst, ℕ, Result, Ok, Err}
+use Rattle.std.proofs.Common.{arith, ℕ, Err}
 use Rattle.bp_page.specs.declared.refusals.Refusal.{Refusal}
 use Rattle.bp_page.specs.declared.refusals.Refusal.TheVariants as refusal
 use Rattle.bp_trail.specs.Parameters.{Parameters}
 use Rattle.bp_core.specs.Agreement.{parameters_with}
-use Rattle.bp_core.specs.CoreView.{CoreView}
 use Rattle.bp_core.specs.Outcomes.{NewOutcome}
 use Rattle.bp_parts.specs.Making.{IsNewCore, MakesCores}
 use Rattle.bp_parts.proofs.Dealing.{all_more, none_all}

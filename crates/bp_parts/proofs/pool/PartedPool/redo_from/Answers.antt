@@ -1,5 +1,5 @@
 -- One part after the other is asked.
-use Rattle.std.proofs.Common.{arith, sym, ap, subst, ◌≡◌, ◌<◌, length, refl}
+use Rattle.std.proofs.Common.{arith, sym, ap, subst, ◌≡◌, ◌<◌, length}
 use Rattle.bp_shared.specs.Sessions.{SessionValue}
 use Rattle.bp_parts.specs.Redo.{IsRedoFromAll}
 use Rattle.bp_parts.proofs.Setting.{kept_by, own_at}
