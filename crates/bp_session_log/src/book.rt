@@ -108,6 +108,7 @@ impl Room {
 }
 
 /// Makes so many blanks more.
+#[inline(always)]
 fn make_blanks<K: ListKeeper>(
     alloc: Global,
     geometry: &Geometry,
@@ -223,6 +224,7 @@ impl<K: ListKeeper> Book<K> {
     /// Takes the memory for so much room, beside all that is owed. No entry is added. Where memory is refused, which is
     /// `OutOfMemory`, the list is as before, and some of the room may be there. A list that takes no memory for its
     /// entries, and has fewer than 2^61, is refused none for passes and copies that it has room for.
+    #[inline(always)]
     pub fn reserve(&mut self, room: Room) -> Result<(), Refusal>
         ensures same { SameBook self.old self.new }
         ensures keeps_passes { self.old.passes ≤ self.new.passes }

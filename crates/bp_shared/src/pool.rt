@@ -334,6 +334,7 @@ impl<N: PartNames, K: ListKeeper> SharedPool<N, K> {
     ///
     /// `UnknownPass` where the session's own list does not give this pass, or gave it back already; else `RingFull`
     /// where 32 passes wait in the ring. Both hand the pass back and change nothing.
+    #[inline(always)]
     pub fn unfix(&self, session: &mut Session<N, K>, pass: Pass) -> Result<(), (Pass, Refusal)>
         ensures client { session.new.client ≡ session.old.client }
         ensures before { session.new.before ≡ session.old.before }
@@ -353,6 +354,7 @@ impl<N: PartNames, K: ListKeeper> SharedPool<N, K> {
     /// wait: a critical section empties the ring, which has room for the pass then. It takes no memory.
     ///
     /// `UnknownPass` alone, as from `unfix`, which hands the pass back and leaves the session as it was.
+    #[inline(always)]
     pub fn unfix_draining<R: Wait>(
         &self,
         rt: &R,

@@ -197,6 +197,7 @@ impl<N: PartNames, K: ListKeeper> Session<N, K> {
     /// Puts a pass on the ring, with no lock and no memory. Where the list does not give it, or gives it back already,
     /// this is `UnknownPass`; where the ring has 32 passes in it, `RingFull`. Both hand the pass back, and change
     /// nothing.
+    #[inline(always)]
     pub(crate) fn unfix(&mut self, pass: Pass) -> Result<(), (Pass, Refusal)>
         ensures client { self.new.client ≡ self.old.client }
         ensures before { self.new.before ≡ self.old.before }
