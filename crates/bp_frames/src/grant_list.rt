@@ -195,6 +195,7 @@ impl GrantList {
     }
 
     /// Makes room for so many more. It fails by want of memory alone, and then the grants stay as they are.
+    #[inline(always)]
     pub fn reserve(&mut self, additional: usize) -> Result<(), AllocError>
         ensures out { self.new.out ≡ self.old.out }
         ensures room { OnOk result (additional ≤ self.new.room) }

@@ -161,6 +161,7 @@ impl LaggingTree {
 
     /// Puts a candidate on a seat, or empties it. The tree is left to lag behind the seat where it may. Else the
     /// candidate waits apart; one whose last time is 0 is put in its place in the tree.
+    #[inline(always)]
     pub fn put(&mut self, seat: usize, entry: Seat)
         requires { seat < length self.old }
         ensures { self.new ≡ set self.old seat entry }
