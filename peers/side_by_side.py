@@ -20,7 +20,8 @@ With `threads` it measures 1, 2 and 4 threads over one pool, whose trail is only
 over a pool of 1, 4 and 16 parts, whose trails are only counted, with as many frames in all. Each number is in uses a
 second of the wall clock, of all threads. The peer is peers/c/bench.c with DB_THREAD, whose numbers are drawn in the
 same way. It ends where one use in a hundred is refused here, or where the peer hits more or fewer of them than this
-pool can: all, or where pages are evicted a quarter.
+pool can: all, or where pages are evicted a quarter. Last come the looks that empty locks would give over the same lines
+of memory, by peers/c/locks.c.
 """
 import os
 import re
@@ -110,6 +111,16 @@ def theirs_in_threads(bench, folder):
     return rates
 
 
+def empty_locks(locks, parts, folder):
+    """The rates of empty locks in so many parts, taken twice for each look, each over one second."""
+    rates = []
+    for threads in THREADS:
+        for _, _, use, frames in USES:
+            words = [locks, str(frames), str(parts), "2", "1", str(threads)]
+            rates.append(int(said(words, folder)) if use == "look" else None)
+    return rates
+
+
 def rows():
     """What `bench pool` measures in its order: a name, the period in ticks, and the place of what it is beside."""
     for at, (name, _, _, hot) in enumerate(PEER):
@@ -137,26 +148,32 @@ def print_table(title, runs, peer):
 
 
 def in_threads(rounds, pages, folder):
-    bench = f"{folder}/bench"
+    bench, locks = f"{folder}/bench", f"{folder}/locks"
     subprocess.run(["cc", "-std=gnu11", "-O3", "-DBERKELEY", f"{TOP}/peers/c/bench.c", "-ldb", "-lpthread", "-o", bench],
                    check=True)
+    subprocess.run(["cc", "-std=gnu11", "-O3", f"{TOP}/peers/c/locks.c", "-lpthread", "-o", locks], check=True)
     kinds = {"only counted": ["silent"], "cut as they go": []}
     kinds.update({f"in {n} part{'s' * (n > 1)}, only counted": [str(n)] for n in PARTS})
-    peer, runs = [], {title: [] for title in kinds}
+    empty = {f"empty locks in {n} part{'s' * (n > 1)}": n for n in PARTS}
+    peer, runs = [], {title: [] for title in (*kinds, *empty)}
     for _ in range(rounds):
         peer.append(theirs_in_threads(bench, folder))
         for title, kind in kinds.items():
             runs[title].append(ours_in_threads(pages, kind, folder))
-    for title in kinds:
-        print_threads(title, runs[title], peer)
+        for title, parts in empty.items():
+            runs[title].append(empty_locks(locks, parts, folder))
+    for title, ran in runs.items():
+        print_threads(title, ran, peer)
 
 
 def print_threads(title, runs, peer):
-    """A row for each use, with the median rates and their ratios for each number of threads."""
+    """A row for each use that was measured, with the median rates and their ratios for each number of threads."""
     print(f"{title}, K 2, thousands a second and the ratio to Berkeley DB")
     heads = " | ".join(f"{n} threads" if n > 1 else "1 thread" for n in THREADS)
     print(f"| Use | Period | {heads} |\n|---|---|---|---|---|")
     for use, (name, period, *_) in enumerate(USES):
+        if runs[0][use] is None:
+            continue
         cells = []
         for at in range(use, len(USES) * len(THREADS), len(USES)):
             mine, other = [it[at] for it in runs], [it[at] for it in peer]
