@@ -19,7 +19,9 @@ steady state: eight fixes for each frame come before those that count.
 With `threads` it measures 1, 2 and 4 threads over one pool, whose trail is only counted, and then cut as they go, and
 over a pool of 1, 4 and 16 parts, whose trails are only counted, with as many frames in all. Each number is in uses a
 second of the wall clock, of all threads. The peer is peers/c/bench.c with DB_THREAD, whose numbers are drawn in the
-same way. Last come the looks that empty locks would give over the same lines of memory, by peers/c/locks.c.
+same way. It ends where one use in a hundred is refused here, or where the peer hits more or fewer of them than this
+pool can: all, or where pages are evicted a quarter. Last come the looks that empty locks would give over the same lines
+of memory, by peers/c/locks.c.
 """
 import os
 import re
@@ -79,12 +81,21 @@ def theirs(mpool, folder):
     return rates
 
 
+def pages_of(use):
+    """The pages of a row of bench_threads: as many as the peer has frames, or four times so many."""
+    _, _, name, frames = use
+    return frames * 4 if name == "evict" else frames
+
+
 def ours_in_threads(pages, kind, folder):
     told = said([BENCH_THREADS, pages, *kind], folder)
-    found = re.findall(r"(\d+) threads, \d+ pages, period (\d+): (\d+) a second", told)
-    if [(int(threads), int(period)) for threads, period, _ in found] != [(n, use[1]) for n in THREADS for use in USES]:
+    row = r"(\d+) threads, (\d+) pages, period (\d+): (\d+) a second; (\d+) of (\d+) were not refused"
+    found = [tuple(map(int, numbers)) for numbers in re.findall(row, told)]
+    if [it[:3] for it in found] != [(n, pages_of(use), use[1]) for n in THREADS for use in USES]:
         sys.exit("side_by_side.py: bench_threads has other rows")
-    return [int(rate) for _, _, rate in found]
+    if any(done * 100 < asked * 99 for *_, done, asked in found):
+        sys.exit(f"side_by_side.py: bench_threads was refused more than one use in a hundred:\n{told}")
+    return [it[3] for it in found]
 
 
 def theirs_in_threads(bench, folder):
@@ -93,7 +104,10 @@ def theirs_in_threads(bench, folder):
     for threads in THREADS:
         for _, _, use, frames in USES:
             line = said([bench, use, "1024", "1", str(threads)], folder, FRAMES=str(frames))
-            rates.append(int(line.split()[0]))
+            rate, hits = line.split()
+            if abs(float(hits) - (0.25 if use == "evict" else 1)) > 0.02:
+                sys.exit(f"side_by_side.py: Berkeley DB hits {hits} of the uses of `{use}`")
+            rates.append(int(rate))
     return rates
 
 

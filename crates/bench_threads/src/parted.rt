@@ -8,8 +8,8 @@ use anyhow::Context;
 use bp_core::{MAX_PERIOD, PassNote, Settings};
 use bp_keeper::SilentKeeper;
 use bp_page::{Format, Lsn};
-use bp_part_workers::{PartedClient, PartedLeft, PartedWorker, run_parted};
-use bp_parts::{PartCount, PartedLog, PartedPool};
+use bp_part_workers::{PartedClient, PartedLeft, PartedWorker, SharedLog, run_parted};
+use bp_parts::{PartCount, PartedPool};
 use bp_ports::{Port, StripedPort};
 use bp_shared::PartNames;
 use bp_workers::Config;
@@ -79,13 +79,13 @@ impl<C: Clock + Drop> Caller<C> {
     }
 }
 
-impl<C: Clock + Drop> PartedWorker<File, SilentKeeper> for Caller<C> {
+impl<C: Clock + Drop> PartedWorker<File, SilentKeeper, ()> for Caller<C> {
     fn work<N: PartNames + PartCount, R: Wait>(
         &mut self,
         rt: &R,
         pool: &PartedPool<N, SilentKeeper>,
         own: &mut Own<N>,
-        _log: &Mutex<PartedLog<N>>,
+        _log: &Mutex<SharedLog<N>>,
     ) {
         'first_parts: for _ in 0..self.parts_before() {
             self.parted_part(rt, pool, own);
@@ -120,13 +120,14 @@ fn run<R: Runtime<A = Global> + Clock + Threads + Wait + Send + Sync>(
         .with_frames(FRAMES / count as usize)
         .with_settings(Settings::new(2, period / count, MAX_PERIOD)?);
     let callers = callers(rt, ports.len() as u64, work)?;
-    let run = run_parted::<SilentKeeper, File, Caller<R>, R>(
+    let run = run_parted::<SilentKeeper, File, (), Caller<R>, R>(
         rt,
         rt.alloc(),
         config,
         parts,
         ports,
         callers,
+        (),
     )?;
     let told = sum(&run.left);
     drop(run);

@@ -1,5 +1,5 @@
 -- What holds of a run over a pool in parts.
-use Rattle.std.specs.Prelude.{◌≡◌, ℕ, ◌<◌, ◌≤◌, All, List, length, slice_index_or, Result, Ok, Err}
+use Rattle.std.specs.Prelude.{◌≡◌, ℕ, ◌<◌, ◌≤◌, All, List, [], length, slice_index_or, Result, Ok, Err}
 use Rattle.std.specs.declared.vec.Vec.{Vec}
 use Rattle.bp_page.specs.declared.refusals.Refusal.{Refusal}
 use Rattle.bp_page.specs.declared.refusals.Refusal.TheVariants as refusal
@@ -48,11 +48,12 @@ RunAnswers can_run (Err refusal.BadSettings) = ¬ can_run
 RunAnswers can_run (Err refusal.OutOfMemory) = can_run
 RunAnswers can_run (Err _) = ⊥
 
--- the core of a part: its trail is one legal history, in which no mark is above what all marks were
--- raised to
+-- the core of a part: its trail is one legal history, of which nothing was cut, and in which no mark
+-- is above what all marks were raised to
 pub record IsLegalCore (p : Parameters) (raised : ℕ) (core : CoreView) : Type 0 where
   pub parameters_are : core.parameters ≡ p
   pub legal : Legal p core.past
+  pub whole : core.before ≡ []
   pub marked : durable core.past ≤ raised
 
 abbrev pub AreLegalCores : Parameters → ℕ → List CoreView → Type 0

@@ -1,7 +1,8 @@
 //! `Job`: one worker's thread.
+use crate::shared_log::{LogState, SharedLog};
 use crate::worker::{PartedClient, PartedLeft, PartedWorker};
 use bp_keeper::ListKeeper;
-use bp_parts::{PartCount, PartedLog, PartedPool, PartedSession};
+use bp_parts::{PartCount, PartedPool, PartedSession};
 use bp_ports::Store;
 use bp_shared::PartNames;
 use std::marker::Model;
@@ -39,14 +40,14 @@ impl<N: PartNames + PartCount, S: Store, K: ListKeeper, W: Drop> Job<N, S, K, W>
     }
 
     /// Lets the worker do its work.
-    pub(crate) fn run<R: Wait>(
+    pub(crate) fn run<T: LogState, R: Wait>(
         &mut self,
         rt: &R,
         pool: &PartedPool<N, K>,
-        log: &Mutex<PartedLog<N>>,
+        log: &Mutex<SharedLog<N, T>>,
     )
     where
-        W: PartedWorker<S, K>,
+        W: PartedWorker<S, K, T>,
         requires ready { IsReady N.parts self.old }
         ensures ran { Ran W.leaves self.old self.new }
     {

@@ -6,7 +6,9 @@
 
 mod job;
 pub mod run;
+pub mod shared_log;
 pub mod worker;
 
 pub use run::{PartedRun, run_parted};
+pub use shared_log::{LogState, SharedLog};
 pub use worker::{PartedClient, PartedLeft, PartedWorker};

@@ -9,14 +9,14 @@ ghost use Rattle.bp_part_workers.specs.Jobs.{AreNewJobs, AreTakenApart, IsReady,
 ghost use Rattle.bp_part_workers.specs.Runs.{AreLegalCores, AreLeftBy, CanRunUpTo, FitTogether, IsPortOf, RunAnswers};
 
 use crate::job::Job;
+use crate::shared_log::{LogState, SharedLog};
 use crate::worker::{PartedClient, PartedLeft, PartedWorker};
 use bp_core::config::MAX_CLIENTS;
 use bp_core::{Config, PoolCore};
 use bp_keeper::{ListKeeper, RecordingKeeper};
 use bp_page::{Geometry, Lsn, Refusal};
 use bp_parts::{
-    PartCount, Parted, PartedLog, PartedPool, PartedSession, end_parts, make_parts, new_cores,
-    new_names,
+    PartCount, Parted, PartedPool, PartedSession, end_parts, make_parts, new_cores, new_names,
 };
 use bp_ports::{Port, Store, StripedPort};
 use bp_session_log::Book;
@@ -31,10 +31,18 @@ use std::thread::Threads;
 
 /// What a run over a pool in parts leaves.
 #[derive(Drop)]
-pub struct PartedRun<W: Drop, S: Store = File, K: ListKeeper = RecordingKeeper> {
+pub struct PartedRun<
+    W: Drop,
+    S: Store = File,
+    K: ListKeeper = RecordingKeeper,
+    T: LogState = (),
+> {
     /// The core of each part, with all entries of its trail.
     pub cores: Vec<PoolCore<K>>,
-    /// The greatest LSN that the workers raised the marks to, or 0.
+    /// What the workers shared beside the log writer.
+    pub state: T,
+    /// The greatest LSN that the workers raised the marks to, or 0. The state agrees with it. A part's trail has no mark
+    /// above it, but may lack it: a raise is in a trail only once a session of that part has looked at the mark.
     pub raised: Lsn,
     /// Of each client, in order, the book of its session in each part.
     pub books: Vec<Vec<Book<K>>>,
@@ -80,9 +88,10 @@ fn run_jobs<
     N: PartNames + PartCount + Send + Sync,
     S: Store + Send,
     K: Kind,
-    W: PartedWorker<S, K> + Send,
+    T: LogState + Send,
+    W: PartedWorker<S, K, T> + Send,
     R: Threads + Wait + Sync,
->(rt: &R, pool: &PartedPool<N, K>, log: &Mutex<PartedLog<N>>, jobs: &mut [Job<N, S, K, W>])
+>(rt: &R, pool: &PartedPool<N, K>, log: &Mutex<SharedLog<N, T>>, jobs: &mut [Job<N, S, K, W>])
     requires some { 0 < length jobs.old }
     requires ready { All (IsReady N.parts) jobs.old }
     ensures counted { length jobs.new ≡ length jobs.old }
@@ -117,7 +126,8 @@ fn run_named<
     N: PartNames + PartCount + Send + Sync,
     S: Store + Send,
     K: Kind,
-    W: PartedWorker<S, K> + Send,
+    T: LogState + Send,
+    W: PartedWorker<S, K, T> + Send,
     R: Threads + Wait + Sync,
 >(
     rt: &R,
@@ -126,7 +136,8 @@ fn run_named<
     names: Vec<Parts>,
     ports: Vec<StripedPort<S>>,
     workers: Vec<W>,
-) -> Result<PartedRun<W, S, K>, Refusal>
+    state: T,
+) -> Result<PartedRun<W, S, K, T>, Refusal>
     requires parts { (vec_len cores ≡ N.parts) × (vec_len names ≡ N.parts) }
     requires few_parts { IsParts N.parts }
     requires cores { All (IsNewCore N.parameters) cores.items }
@@ -137,8 +148,10 @@ fn run_named<
     requires few { vec_len workers ≤ 64 }
     requires ports { vec_len ports ≡ vec_len workers }
     requires stripes { All (IsPortTo N.parts N.parameters) ports.items }
+    requires agrees { T.agrees state 0 }
     ensures parts { IfOk result (λ run. vec_len run.cores ≡ N.parts) }
     ensures legal { IfOk result (λ run. AreLegalCores N.parameters run.raised run.cores.items) }
+    ensures agrees { IfOk result (λ run. T.agrees run.state run.raised) }
     ensures left { IfOk result (λ run.
         AreLeftBy W.leaves N.parts workers.items ports.items run.cores.items run.left.items
         run.books.items) }
@@ -155,21 +168,22 @@ fn run_named<
     let mut jobs = make_jobs(alloc, sessions, ports, workers)?;
     let sessions = Vec::with_capacity(alloc, clients)?;
     let left = Vec::with_capacity(alloc, clients)?;
-    let log = Mutex::new(log);
+    let log = Mutex::new(SharedLog { state, writer: log });
     run_jobs(rt, &pool, &log, jobs.as_mut_slice());
     let (sessions, left) = take_apart(jobs, sessions, left);
-    let log = log.into_inner();
-    let raised = log.durable();
+    let SharedLog { state, writer } = log.into_inner();
+    let raised = writer.durable();
     let parted = Parted {
         pool,
         sessions,
         takers,
-        log,
+        log: writer,
         room,
     };
     let ended = end_parts(rt, parted);
     Ok(PartedRun {
         cores: ended.cores,
+        state,
         raised,
         books: ended.books,
         left,
@@ -215,28 +229,38 @@ fn fit_together<S: Store>(
 /// Runs workers over a pool in parts, each in a thread of its own with a session in each part and a port to the stripes
 /// of the file: `workers[c]` is client c and has `ports[c]`. It waits until all have returned, and ends the pool, which
 /// is of the kind that K says. The configuration is that of one part: its frames and room are a part's own, its geometry
-/// is that of a stripe.
+/// is that of a stripe. The workers share the log writer, and the state beside it, which agrees with marks at 0.
 ///
 /// It takes 1 to 64 parts, 1 to 64 workers, and as many ports to as many stripes. At `Ok` each worker did its work, and
 /// at its place stand the worker, its own port, and the books of its client's sessions, one of each part. The trail of
-/// each part's core is one legal history, in which no mark is above what the workers raised all marks to. A client's
-/// book of a part has exactly that history's entries of the client, each unfix in its place.
+/// each part's core is one legal history, whole from its first entry on, in which no mark is above what the workers
+/// raised all marks to. The state comes back, and agrees with that. A client's book of a part has exactly that history's
+/// entries of the client, each unfix in its place.
 ///
 /// `BadSettings` where the parts or the workers are not 1 to 64, the ports are not as many or one is of other stripes,
 /// the frames are not 1 to 65,536 or the room not 1 to its keeper's most; `OutOfMemory` where there is not the memory.
 /// Both come before any thread starts, and all that was given is dropped. Device faults and the pool's refusals go to
 /// the worker that called, and end no run.
-pub fn run_parted<K: Kind, S: Store + Send, W: PartedWorker<S, K> + Send, R: Threads + Wait + Sync>(
+pub fn run_parted<
+    K: Kind,
+    S: Store + Send,
+    T: LogState + Send,
+    W: PartedWorker<S, K, T> + Send,
+    R: Threads + Wait + Sync,
+>(
     rt: &R,
     alloc: Global,
     config: Config,
     parts: u8,
     ports: Vec<StripedPort<S>>,
     workers: Vec<W>,
-) -> Result<PartedRun<W, S, K>, Refusal>
+    state: T,
+) -> Result<PartedRun<W, S, K, T>, Refusal>
+    requires agrees { T.agrees state 0 }
     ensures parts { IfOk result (λ run. vec_len run.cores ≡ parts) }
     ensures legal { IfOk result (λ run.
         AreLegalCores (parameters_with config (vec_len workers)) run.raised run.cores.items) }
+    ensures agrees { IfOk result (λ run. T.agrees run.state run.raised) }
     ensures left { IfOk result (λ run.
         AreLeftBy W.leaves parts workers.items ports.items run.cores.items run.left.items
         run.books.items) }
@@ -255,5 +279,5 @@ pub fn run_parted<K: Kind, S: Store + Send, W: PartedWorker<S, K> + Send, R: Thr
         Ok(names) => names,
         Err(refusal) => return Err(refusal),
     };
-    run_named::<Brand, S, K, W, R>(rt, alloc, cores, names, ports, workers)
+    run_named::<Brand, S, K, T, W, R>(rt, alloc, cores, names, ports, workers, state)
 }

@@ -2,9 +2,10 @@
 ghost use Rattle.std.specs.Prelude.{◌≡◌};
 ghost use Rattle.bp_ports.specs.Stripes.{IsParts};
 
+use crate::shared_log::{LogState, SharedLog};
 use bp_keeper::{ListKeeper, RecordingKeeper};
 use bp_page::PageNo;
-use bp_parts::{PartCount, PartedLog, PartedPool, PartedSession};
+use bp_parts::{PartCount, PartedPool, PartedSession};
 use bp_ports::{Port, Store, StripedPort};
 use bp_shared::PartNames;
 use std::fs::File;
@@ -47,12 +48,13 @@ impl<N: PartNames + PartCount, S: Store, K: ListKeeper> PartedClient<N, S, K> {
 }
 
 /// What one client of a pool in parts does, in a thread of its own. The pool is of the kind that K says: over
-/// `RecordingKeeper` or `SilentKeeper`. A worker that serves both is generic over K.
+/// `RecordingKeeper` or `SilentKeeper`. A worker that serves both is generic over K. T is what the workers share beside the
+/// log writer: `()` where there is nothing.
 ///
 /// A refusal is the worker's own to note. It has to return, since the run waits for all workers, and to give its passes
 /// back: the page of one that it holds stays pinned. The sessions that it leaves are still its client's, as each call of
 /// the pool leaves them.
-pub trait PartedWorker<S: Store, K: ListKeeper>: Drop {
+pub trait PartedWorker<S: Store, K: ListKeeper, T: LogState>: Drop {
     ghost use Rattle.std.specs.Prelude.{◌≡◌};
     ghost use Rattle.bp_parts.specs.Making.{new_in_parts};
     ghost use Rattle.bp_part_workers.specs.Workers.{Leaving};
@@ -68,7 +70,7 @@ pub trait PartedWorker<S: Store, K: ListKeeper>: Drop {
         rt: &R,
         pool: &PartedPool<N, K>,
         client: &mut PartedClient<N, S, K>,
-        log: &Mutex<PartedLog<N>>,
+        log: &Mutex<SharedLog<N, T>>,
     )
         requires new { client.old.session.sessions
             ≡ new_in_parts N.parts client.old.session.client }

@@ -37,7 +37,9 @@ pub use bp_workers::{
 };
 
 // Workers over a pool in parts: shared pools side by side, each over a stripe of one file.
-pub use bp_part_workers::{PartedClient, PartedLeft, PartedRun, PartedWorker, run_parted};
+pub use bp_part_workers::{
+    LogState, PartedClient, PartedLeft, PartedRun, PartedWorker, SharedLog, run_parted,
+};
 pub use bp_parts::{
     EndRoom, EndedParts, PartCount, PartPass, Parted, PartedLog, PartedPool, PartedSession,
     end_parts, make_parts, new_cores, new_names,

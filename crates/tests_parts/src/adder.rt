@@ -3,8 +3,8 @@ ghost use Rattle.std.specs.Prelude.{◌≡◌, ◌<◌};
 
 use bp_keeper::RecordingKeeper;
 use bp_page::{Lsn, Refusal};
-use bp_part_workers::{PartedClient, PartedWorker};
-use bp_parts::{PartCount, PartedLog, PartedPool};
+use bp_part_workers::{PartedClient, PartedWorker, SharedLog};
+use bp_parts::{PartCount, PartedPool};
 use bp_ports::{Port, Store};
 use bp_shared::PartNames;
 use std::sync::{Mutex, Wait};
@@ -85,13 +85,13 @@ impl Adder {
     }
 }
 
-impl<S: Store> PartedWorker<S, RecordingKeeper> for Adder {
+impl<S: Store> PartedWorker<S, RecordingKeeper, ()> for Adder {
     fn work<N: PartNames + PartCount, R: Wait>(
         &mut self,
         rt: &R,
         pool: &PartedPool<N>,
         client: &mut PartedClient<N, S>,
-        _log: &Mutex<PartedLog<N>>,
+        _log: &Mutex<SharedLog<N>>,
     ) {
         'uses: for _ in 0..self.uses {
             self.state = self.state.wrapping_mul(6364136223846793005).wrapping_add(1);

@@ -5,8 +5,8 @@ use crate::scratch::scratch;
 use bp_core::{Config, NotFlushed, Settings};
 use bp_keeper::RecordingKeeper;
 use bp_page::{Format, Geometry, Lsn, PageNo, Refusal};
-use bp_part_workers::{PartedClient, PartedWorker, run_parted};
-use bp_parts::{PartCount, PartedLog, PartedPool};
+use bp_part_workers::{LogState, PartedClient, PartedWorker, SharedLog, run_parted};
+use bp_parts::{PartCount, PartedPool};
 use bp_ports::{FilePort, Store, StripedPort, create_striped_file};
 use bp_shared::PartNames;
 use std::sync::{Mutex, Wait};
@@ -21,6 +21,28 @@ struct Writer {
     redo: (Option<Lsn>, Option<Lsn>),
     /// What the flush before the log was durable answered, and that after it.
     flushes: (Result<(), (u8, NotFlushed)>, Result<(), (u8, NotFlushed)>),
+}
+
+/// The greatest LSN that the marks were raised to.
+#[derive(Drop)]
+struct Raised {
+    to: Lsn,
+}
+
+impl LogState for Raised {
+    ghost use Rattle.std.specs.Prelude.{◌≡◌};
+
+    ghost agrees = { λ s raised. s.to ≡ raised };
+}
+
+/// Raises the marks of both parts, and notes how far.
+fn raise<N: PartNames + PartCount>(
+    pool: &PartedPool<N>,
+    log: &mut SharedLog<N, Raised>,
+    lsn: Lsn,
+) {
+    log.writer.raise(pool, lsn);
+    log.state.to = log.writer.durable();
 }
 
 /// Writes 7 in byte 0 of a page under an LSN.
@@ -46,20 +68,20 @@ fn write_seven<N: PartNames + PartCount, S: Store, R: Wait>(
     written
 }
 
-impl<S: Store> PartedWorker<S, RecordingKeeper> for Writer {
+impl<S: Store> PartedWorker<S, RecordingKeeper, Raised> for Writer {
     fn work<N: PartNames + PartCount, R: Wait>(
         &mut self,
         rt: &R,
         pool: &PartedPool<N>,
         client: &mut PartedClient<N, S>,
-        log: &Mutex<PartedLog<N>>,
+        log: &Mutex<SharedLog<N, Raised>>,
     ) {
         let three = write_seven(rt, pool, client, 3, 20);
         let four = write_seven(rt, pool, client, 4, 10);
         self.refused = three.and(four).err();
         self.redo.0 = pool.redo_from(rt, &mut client.session);
         self.flushes.0 = pool.flush_all(rt, &mut client.session, &mut client.port);
-        log.lock(rt).raise(pool, Lsn::new(20));
+        raise(pool, &mut log.lock(rt), Lsn::new(20));
         self.flushes.1 = pool.flush_all(rt, &mut client.session, &mut client.port);
         self.redo.1 = pool.redo_from(rt, &mut client.session);
     }
@@ -87,11 +109,21 @@ fn pages_of_both_parts_reach_the_file(rt: HostRuntime) {
             flushes: (Ok(()), Ok(())),
         })
         .expect(&rt, "memory");
-    let ran = run_parted::<RecordingKeeper, _, _, _>(&rt, rt.alloc(), config, 2, ports, workers);
+    let state = Raised { to: Lsn::new(0) };
+    let ran = run_parted::<RecordingKeeper, _, _, _, _>(
+        &rt,
+        rt.alloc(),
+        config,
+        2,
+        ports,
+        workers,
+        state,
+    );
     let run = ran.expect(&rt, "a run");
     let wrote = &run.left[0].worker;
     assert!(&rt; wrote.refused.is_none());
     assert!(&rt; wrote.redo == (Some(Lsn::new(10)), None));
+    assert!(&rt; run.state.to == Lsn::new(20));
     assert!(&rt; run.raised == Lsn::new(20));
     let stopped = &wrote.flushes.0;
     assert!(&rt;

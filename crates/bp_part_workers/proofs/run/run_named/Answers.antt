@@ -47,7 +47,8 @@ end_parts-ended-requires-clause-room g c =
 pub returns-clause-legal : goal.returns-clause-legal
 returns-clause-legal g c i d below =
     let is = c.end_parts-ended.ensures.cores i (new_taker 0) d below in
-    record { parameters_are = is.parameters_are; legal = is.legal; marked = subst (λ n. durable (slice_index_or c.end_parts-ended.result.cores.items i d).past ≤ n) (sym c.durable-raised.ensures) is.marked }
+    let untaken = ap (λ (t : TakerValue). t.past) (up_to_each new_taker g.N.PartCount.parts _ c.in_ok-pool.ensures.takers i (new_taker 0) (omega (arith, below, c.end_parts-ended.ensures.parts, c.end_parts-ended.result.cores.ok, ap length c.in_ok-pool.ensures.takers, up_to_length new_taker g.N.PartCount.parts))) in
+    record { parameters_are = is.parameters_are; legal = is.legal; whole = is.before_is ∙ untaken; marked = subst (λ n. durable (slice_index_or c.end_parts-ended.result.cores.items i d).past ≤ n) (sym c.durable-raised.ensures) is.marked }
 
 pub returns-clause-left : goal.returns-clause-left
 returns-clause-left g c =
