@@ -31,12 +31,7 @@ use std::thread::Threads;
 
 /// What a run over a pool in parts leaves.
 #[derive(Drop)]
-pub struct PartedRun<
-    W: Drop,
-    S: Store = File,
-    K: ListKeeper = RecordingKeeper,
-    T: LogState = (),
-> {
+pub struct PartedRun<W: Drop, S: Store = File, K: ListKeeper = RecordingKeeper, T: LogState = ()> {
     /// The core of each part, with all entries of its trail.
     pub cores: Vec<PoolCore<K>>,
     /// What the workers shared beside the log writer.

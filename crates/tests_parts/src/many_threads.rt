@@ -87,8 +87,15 @@ fn additions_of_four_threads_are_all_there(rt: HostRuntime) {
         workers.push(Adder::new(byte, 400)).expect(&rt, "memory");
     }
     let config = config_of(&rt, stripe, 2);
-    let ran =
-        run_parted::<RecordingKeeper, _, _, _, _>(&rt, rt.alloc(), config, 4, ports, workers, ());
+    let ran = run_parted::<RecordingKeeper, _, _, _, _>(
+        &rt,
+        rt.alloc(),
+        config,
+        4,
+        ports,
+        workers,
+        (),
+    );
     let run = ran.expect(&rt, "a run");
     assert!(&rt; run.cores.len() == 4);
     look(&rt, path, &run);
@@ -109,8 +116,15 @@ fn additions_through_failing_ports_are_all_there(rt: HostRuntime) {
         workers.push(Adder::new(byte, 60)).expect(&rt, "memory");
     }
     let config = config_of(&rt, stripe, 2);
-    let ran =
-        run_parted::<RecordingKeeper, _, _, _, _>(&rt, rt.alloc(), config, 8, ports, workers, ());
+    let ran = run_parted::<RecordingKeeper, _, _, _, _>(
+        &rt,
+        rt.alloc(),
+        config,
+        8,
+        ports,
+        workers,
+        (),
+    );
     let run = ran.expect(&rt, "a run");
     assert!(&rt; run.cores.len() == 8);
     let mut has_failed = false;

@@ -36,11 +36,7 @@ impl LogState for Raised {
 }
 
 /// Raises the marks of both parts, and notes how far.
-fn raise<N: PartNames + PartCount>(
-    pool: &PartedPool<N>,
-    log: &mut SharedLog<N, Raised>,
-    lsn: Lsn,
-) {
+fn raise<N: PartNames + PartCount>(pool: &PartedPool<N>, log: &mut SharedLog<N, Raised>, lsn: Lsn) {
     log.writer.raise(pool, lsn);
     log.state.to = log.writer.durable();
 }
