@@ -21,7 +21,7 @@ use Rattle.example_table.specs.declared.table.TableFault.{TableFault}
 use Rattle.example_log.specs.Commits.{AreCommits, HasCommits, changes_of, log_of, payload_of}
 use Rattle.example_log.specs.Disk.{DeviceCall, Did, Reads, Writes, Syncs, Honest, MayBring, MayLeave, Partly, is_good_sync, sync_failed}
 use Rattle.bp_trail.specs.Lists.{some}
-use Rattle.example_log.specs.Files.{FileCall, FileDid, FileLeaves, IsSettled, SettledLeaves, Unsure, failed, settles, synced, written}
+use Rattle.example_log.specs.Files.{FileCall, FileDid, FileLeaves, IsSettled, SettledLeaves, Unsure, settles, synced, written}
 use Rattle.example_log.specs.Files.FileCall.{Read, Write, Wipe, Sync}
 use Rattle.example_log.specs.Files.IsSettled.{settled as was_settled, again as settled_again, resynced as settled_synced}
 use Rattle.example_log.specs.Frames.{IsRecord, NoFrame, frame, frames}
