@@ -7,7 +7,7 @@ use Rattle.std.proofs.lemmas.List.{take_at, drop_at, drop-drop, take-append-drop
 use Rattle.bp_page.specs.Patched.{patched}
 use Rattle.example_log.specs.Frames.{frame, frames, IsRecord, NoFrame}
 use Rattle.example_log.specs.Files.{FileCall, failed, written, settles, synced, Unsure, FileLeaves}
-use Rattle.example_log.specs.Files.FileCall.{Write, Again, Sync}
+use Rattle.example_log.specs.Files.FileCall.{Write, Again, Wipe, Sync}
 use Rattle.example_log.specs.Lives.{LogLife, AreRecords, IsRead, Reopened, SameAt, TellsTrue, whole}
 use Rattle.example_log.specs.Lives.LogLife.{wiped, appended, synced as was_synced, unsynced, closed}
 use Rattle.example_log.specs.Lives.Reopened.{ended, again, synced as was_settled}
@@ -84,21 +84,20 @@ module _ (first : List ℕ) (start : ℕ) where
   abbrev N : ℕ
   N = length first
 
-  begins : (before : List FileCall) → failed before ≡ false → length (written first before) ≡ N
-      → LifeIs first start true (Sync true ∷ Write 0 (replicate N 0) true ∷ before) [] 0
-  begins before good long =
-      let wipe : List FileCall = Write 0 (replicate N 0) true ∷ before in
+  begins : (before : List FileCall) → length (written first before) ≡ N → LifeIs first start true (Sync true ∷ Wipe N true ∷ before) [] 0
+  begins before long =
+      let wipe : List FileCall = Wipe N true ∷ before in
       let zeros : List ℕ = replicate N 0 in
       let none : drop (0 + length zeros) (written first before) ≡ [] = drop_all (0 + length zeros) (written first before) (omega (arith, length-replicate {A = ℕ} N 0)) in
       let whole : written first wipe ≡ replicate (N - 0) 0 = ap (λ (t : List ℕ). zeros ++ t) none ∙ append-nil zeros ∙ ap (λ (n : ℕ). replicate n 0) (omega arith) in
       record {
         room = omega arith;
         written_is = whole;
-        synced_is = chosen (settles true wipe) (written first wipe) (synced first wipe) (settled wipe good) ∙ whole;
-        unsure = λ i h. absurd (nothing (settles true wipe) (Unsure wipe i) (settled wipe good) h);
+        synced_is = chosen (settles true wipe) (written first wipe) (synced first wipe) (settled wipe refl) ∙ whole;
+        unsure = λ i h. absurd (nothing (settles true wipe) (Unsure wipe i) (settled wipe refl) h);
         count = omega arith;
         records = tt;
-        good = λ _. good;
+        good = λ _. refl;
       }
 
   module _ (calls : List FileCall) (log : List (List ℕ)) (durable : ℕ) (is : LifeIs first start true calls log durable) where
@@ -168,7 +167,7 @@ module _ (first : List ℕ) (start : ℕ) where
     }
 
   pub life-is : (alive : Bool) (calls : List FileCall) (log : List (List ℕ)) (durable : ℕ) → LogLife first start alive calls log durable → LifeIs first start alive calls log durable
-  life-is _ _ _ _ (wiped {before = before} good long) = begins before good long
+  life-is _ _ _ _ (wiped {before = before} long) = begins before long
   life-is _ _ _ _ (appended {calls = calls} {log = log} {durable = durable} payload good older fit room) = grows calls log durable (life-is true calls log durable older) payload good fit room
   life-is _ _ _ _ (was_synced {calls = calls} {log = log} {durable = durable} older) = settles-all calls log durable (life-is true calls log durable older)
   life-is _ _ _ _ (unsynced {calls = calls} {log = log} {durable = durable} older) = settles-none calls log durable (life-is true calls log durable older)

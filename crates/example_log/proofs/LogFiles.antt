@@ -6,18 +6,19 @@ use Rattle.std.specs.Result.{IsErr, is_ok}
 use Rattle.bp_ports.specs.Files.{Transfer, StoreSync}
 use Rattle.example_log.specs.declared.log.LogFile.{LogFile}
 use Rattle.example_log.specs.Frames.{frame, frames, IsRecord}
-use Rattle.example_log.specs.Files.{FileCall, FileDid, failed as has_failed, written}
-use Rattle.example_log.specs.Files.FileCall.{Write, Again, Sync}
+use Rattle.example_log.specs.Files.{FileCall, FileDid, written}
+use Rattle.example_log.specs.Files.FileCall.{Write, Again, Wipe, Sync}
 use Rattle.example_log.specs.Lives.{LogLife}
 use Rattle.example_log.specs.Moments.{AtEach}
 use Rattle.example_log.specs.Lives.LogLife.{wiped as was_wiped, appended, synced as was_synced, unsynced, closed}
-use Rattle.example_log.specs.LogFiles.{AppendFault, BeginFault, BeginsBy, HasRoom, IsLogFile, GoesOn, Begins, Settles, WipesFile, Wipes}
+use Rattle.example_log.specs.LogFiles.{AppendFault, BeginFault, BeginsBy, StopFault, HasRoom, IsLogFile, GoesOn, Begins, Settles, WipesFile, Wipes}
 use Rattle.example_log.specs.LogFiles.BeginsBy.{wiping, wiped as by_wiped, wrote as by_wrote, synced as by_synced}
 use Rattle.example_log.specs.LogFiles.AppendFault.{has_ended, no_memory, no_lsn, no_room, failed as append_failed}
+use Rattle.example_log.specs.LogFiles.StopFault.{no_memory as stop_no_memory, failed as stop_failed}
 use Rattle.example_log.specs.LogFiles.BeginFault.{no_memory as begin_no_memory, failed as begin_failed, no_lsn as begin_no_lsn, no_room as begin_no_room}
 use Rattle.example_log.specs.LogFiles.Settles.{nothing as settles_nothing, unwritten as settles_unwritten, synced as settles_synced}
 use Rattle.example_log.specs.declared.log.LogFault.{LogFault}
-use Rattle.example_log.specs.declared.log.LogFault.TheVariants.{Memory, Device}
+use Rattle.example_log.specs.declared.log.LogFault.TheVariants.{Device}
 use Rattle.example_log.specs.LogFiles.Wipes.{nothing, wrote, unsynced as was_unsynced}
 use Rattle.example_log.proofs.Lives.{frames-push}
 
@@ -32,6 +33,10 @@ err-is A x y r e f = cc
 pub fault-is : {A : Type 0} (r : Result A LogFault) (fault : LogFault) (P : LogFault → Type 0) → IsErrAnd r (λ e. e ≡ fault) → P fault → IfErr r P
 fault-is (Ok x) fault P k p = tt
 fault-is (Err e) fault P k p = subst P (sym k) p
+
+-- a call of the file failed
+pub failed-as : {A B : Type 0} (r : Result A LogFault) (x : LogFault) (s : Result B LogFault) (P : LogFault → Type 0) → s ≡ Err x → s ≡ Err Device → IsErrAnd r (λ e. e ≡ x) → P Device → IfErr r P
+failed-as {A} {B} r x s P is told k p = fault-is r Device P (subst (λ w. IsErrAnd r (λ e. e ≡ w)) (err-is B x Device s is told) k) p
 
 pub file-did-append : {S : Type 0} (reads writes : Transfer S) (syncs : StoreSync S) (a b c : S) (newer older : List FileCall)
     → FileDid reads writes syncs a older b → FileDid reads writes syncs b newer c → FileDid reads writes syncs a (newer ++ older) c
@@ -141,6 +146,13 @@ module _ {S : Type 0} (reads writes : Transfer S) (syncs : StoreSync S) where
     abbrev Begun : LogFile S → Bool → Type 0
     Begun new good = Begins reads writes syncs old new start head good
 
+    abbrev Unbegun : S → LogFault → Type 0
+    Unbegun after why = BeginFault reads writes syncs old.size start head old.store after why
+
+    pub unwiped-fault : (after : S) (why : LogFault) → StopFault reads writes syncs (Wipes old.size) old.store after why → Unbegun after why
+    unwiped-fault after _ (stop_no_memory same) = begin_no_memory
+    unwiped-fault after _ (stop_failed calls did by bad) = begin_failed calls did (wiping by) bad
+
     pub wiped-not : (new : LogFile S) → WipesFile reads writes syncs old.size old.store false new.store → Begun new false
     wiped-not new w = record { calls = w.0; did = w.1; by = wiping w.2; is = λ e. absurd (cc) }
 
@@ -150,14 +162,14 @@ module _ {S : Type 0} (reads writes : Transfer S) (syncs : StoreSync S) where
       empty = record { store = store; size = size_now; end = 0; next = start; is_ended = false }
 
       abbrev wiped_calls : ℕ → List FileCall
-      wiped_calls size = Sync true ∷ Write 0 (replicate size 0) true ∷ []
+      wiped_calls size = Sync true ∷ Wipe size true ∷ []
 
       did-wipe : FileDid reads writes syncs old.store (wiped_calls old.size) store
       did-wipe = (w.0, (old.store, refl, w.1), w.2)
 
-      pub empty-is : (first : List ℕ) (before : List FileCall) → has_failed before ≡ false → length (written first before) ≡ length first → old.size ≡ length first
+      pub empty-is : (first : List ℕ) (before : List FileCall) → length (written first before) ≡ length first → old.size ≡ length first
           → IsLogFile first start (wiped_calls (length first) ++ before) [] 0 empty
-      empty-is first before good long size = record { life = was_wiped good long; positive = positive; size = as_before ∙ size; end = λ a. refl; next = λ a. omega arith }
+      empty-is first before long size = record { life = was_wiped long; positive = positive; size = as_before ∙ size; end = λ a. refl; next = λ a. omega arith }
 
       unbegun : (new : LogFile S) → new.store ≡ store → Begun new false
       unbegun new same = record { calls = wiped_calls old.size; did = subst (λ x. FileDid reads writes syncs old.store (wiped_calls old.size) x) (sym same) did-wipe; by = by_wiped; is = λ e. absurd (cc) }
@@ -176,6 +188,13 @@ module _ {S : Type 0} (reads writes : Transfer S) (syncs : StoreSync S) where
       unappended new _ (no_room e lt same) = unbegun _ (ap (λ (f : LogFile S). f.store) same)
       unappended new _ (append_failed room ended gave) = record { calls = Write 0 (frame start head) false ∷ wiped_calls old.size; did = (store, did-wipe, gave); by = by_wrote false (is-record room) (has-room room); is = λ e. absurd (cc) }
 
+      pub unappended-fault : (new : LogFile S) (fault : LogFault) → AppendFault writes empty head new fault → Unbegun new.store fault
+      unappended-fault new _ (has_ended e same) = absurd (cc)
+      unappended-fault new _ (no_memory e same) = begin_no_memory
+      unappended-fault new _ (no_lsn e le same) = begin_no_lsn (omega arith)
+      unappended-fault new _ (no_room e lt same) = begin_no_room (omega (arith, as_before))
+      unappended-fault new _ (append_failed room ended gave) = begin_failed (Write 0 (frame start head) false ∷ wiped_calls old.size) (store, did-wipe, gave) (by_wrote false (is-record room) (has-room room)) refl
+
       -- it was appended, and synced or not
       module _ (mid : LogFile S) (room : HasRoom empty head) (gave : writes store 0 (frame start head) true mid.store) where
         begun_calls : Bool → List FileCall
@@ -187,13 +206,16 @@ module _ {S : Type 0} (reads writes : Transfer S) (syncs : StoreSync S) where
         pub begun-unsynced : (new : LogFile S) → syncs mid.store false new.store → Begun new false
         begun-unsynced new synced = record { calls = Sync false ∷ Write 0 (frame start head) true ∷ wiped_calls old.size; did = did-begin false new synced; by = by_synced false (is-record room) (has-room room); is = λ e. absurd (cc) }
 
-        life : (first : List ℕ) (before : List FileCall) → has_failed before ≡ false → length (written first before) ≡ length first → old.size ≡ length first
+        pub unsynced-fault : (new : LogFile S) → syncs mid.store false new.store → Unbegun new.store Device
+        unsynced-fault new synced = begin_failed (Sync false ∷ Write 0 (frame start head) true ∷ wiped_calls old.size) (did-begin false new synced) (by_synced false (is-record room) (has-room room)) refl
+
+        life : (first : List ℕ) (before : List FileCall) → length (written first before) ≡ length first → old.size ≡ length first
             → LogLife first start true (Sync true ∷ Write 0 (frame start head) true ∷ (wiped_calls old.size ++ before)) (head ∷ []) 1
-        life first before good long size =
+        life first before long size =
             let e : start ≡ start + 0 = omega arith in
             let fits : length (frame start head) ≤ length first = (let h = has-room room in omega arith) in
             let from : LogLife first start true (Write 0 (frame (start + 0) head) true ∷ (wiped_calls (length first) ++ before)) (head ∷ []) 0 =
-            appended head true (was_wiped good long) (subst (λ (n : ℕ). IsRecord n head) e (is-record room)) (subst (λ (n : ℕ). 0 + length (frame n head) ≤ length first) e (omega arith)) in
+            appended head true (was_wiped long) (subst (λ (n : ℕ). IsRecord n head) e (is-record room)) (subst (λ (n : ℕ). 0 + length (frame n head) ≤ length first) e (omega arith)) in
             was_synced (subst (λ (n : ℕ). LogLife first start true (Write 0 (frame start head) true ∷ (wiped_calls n ++ before)) (head ∷ []) 0) (sym size)
             (subst (λ (n : ℕ). LogLife first start true (Write 0 (frame n head) true ∷ (wiped_calls (length first) ++ before)) (head ∷ []) 0) (sym e) from))
 
@@ -204,9 +226,9 @@ module _ {S : Type 0} (reads writes : Transfer S) (syncs : StoreSync S) where
           calls = Sync true ∷ Write 0 (frame start head) true ∷ wiped_calls old.size;
           did = did-begin true new synced;
           by = by_synced true (is-record room) (has-room room);
-          is = λ e first before good long size.
-              (let g = goes first (wiped_calls (length first) ++ before) (empty-is first before good long size) in record {
-                life = subst (λ (b : Bool). LogLife first start b (Sync true ∷ Write 0 (frame start head) true ∷ (wiped_calls old.size ++ before)) (head ∷ []) 1) (sym (ap not alive)) (life first before good long size);
+          is = λ e first before long size.
+              (let g = goes first (wiped_calls (length first) ++ before) (empty-is first before long size) in record {
+                life = subst (λ (b : Bool). LogLife first start b (Sync true ∷ Write 0 (frame start head) true ∷ (wiped_calls old.size ++ before)) (head ∷ []) 1) (sym (ap not alive)) (life first before long size);
                 positive = positive;
                 size = same ∙ size;
                 end = λ a. end ∙ g.is.end there ∙ ap (λ (l : List (List ℕ)). length (frames start l)) g.is_so;
@@ -244,7 +266,26 @@ module _ {S : Type 0} (reads writes : Transfer S) (syncs : StoreSync S) (old mid
   pub settles-synced : (good : Bool) → writes old 0 bytes true mid → syncs mid good new → Led new good
   settles-synced good gave synced = (Sync good ∷ Again again true ∷ [], (mid, (old, refl, subst (λ (t : List ℕ). writes old 0 t true mid) same gave), synced), settles_synced good)
 
+  abbrev Stopped : S → LogFault → Type 0
+  Stopped after why = StopFault reads writes syncs (λ calls. Settles again calls false) old after why
+
+  pub settle-unwritten : writes old 0 bytes false mid → Stopped mid Device
+  settle-unwritten gave = stop_failed (Again again false ∷ []) (old, refl, subst (λ (t : List ℕ). writes old 0 t false mid) same gave) settles_unwritten refl
+
+  pub settle-unsynced : writes old 0 bytes true mid → syncs mid false new → Stopped new Device
+  settle-unsynced gave synced = stop_failed (Sync false ∷ Again again true ∷ []) (mid, (old, refl, subst (λ (t : List ℕ). writes old 0 t true mid) same gave), synced) (settles_synced false) refl
+
 -- ---- a file that is wiped
+
+module _ {S : Type 0} (reads writes : Transfer S) (syncs : StoreSync S) (size : ℕ) (old mid new : S) (zeros : List ℕ) (are : zeros ≡ replicate size 0) where
+  abbrev Unwiped : S → LogFault → Type 0
+  Unwiped after why = StopFault reads writes syncs (Wipes size) old after why
+
+  pub wipe-unwritten : writes old 0 zeros false mid → Unwiped mid Device
+  wipe-unwritten gave = stop_failed (Wipe size false ∷ []) (old, refl, subst (λ (t : List ℕ). writes old 0 t false mid) are gave) (wrote false) refl
+
+  pub wipe-unsynced : writes old 0 zeros true mid → syncs mid false new → Unwiped new Device
+  wipe-unsynced gave synced = stop_failed (Sync false ∷ Wipe size true ∷ []) (mid, (old, refl, subst (λ (t : List ℕ). writes old 0 t true mid) are gave), synced) was_unsynced refl
 
 module _ {S : Type 0} (reads writes : Transfer S) (syncs : StoreSync S) (size : ℕ) (old mid new : S) (r : Result (Unit {0}) LogFault) (e : IsErr r) where
   abbrev Wiped : S → Type 0
@@ -261,19 +302,10 @@ module _ {S : Type 0} (reads writes : Transfer S) (syncs : StoreSync S) (size : 
   unwiped = as-error old ([], refl, nothing)
 
   pub wiped-partly : (zeros : List ℕ) → zeros ≡ replicate size 0 → writes old 0 zeros false mid → Wiped mid
-  wiped-partly zeros are gave = as-error mid (Write 0 (replicate size 0) false ∷ [], (old, refl, subst (λ (t : List ℕ). writes old 0 t false mid) are gave), wrote false)
+  wiped-partly zeros are gave = as-error mid (Wipe size false ∷ [], (old, refl, subst (λ (t : List ℕ). writes old 0 t false mid) are gave), wrote false)
 
   pub wiped-unsynced : (zeros : List ℕ) → zeros ≡ replicate size 0 → writes old 0 zeros true mid → syncs mid false new → Wiped new
-  wiped-unsynced zeros are gave synced = as-error new (Sync false ∷ Write 0 (replicate size 0) true ∷ [], (mid, (old, refl, subst (λ (t : List ℕ). writes old 0 t true mid) are gave), synced), was_unsynced)
-
--- ---- why a log was not begun
-
-pub begin-fault : {S : Type 0} (writes : Transfer S) (old new : LogFile S) (head : List ℕ) (size lsn : ℕ) (fault : LogFault) → AppendFault writes old head new fault → old.is_ended ≡ false → old.size ≡ size → old.next ≡ lsn → old.end ≡ 0 → BeginFault size lsn head fault
-begin-fault writes old new head size lsn _ (has_ended e same) alive s n z = absurd (cc)
-begin-fault writes old new head size lsn _ (no_memory e same) alive s n z = begin_no_memory
-begin-fault writes old new head size lsn _ (no_lsn e le same) alive s n z = begin_no_lsn (omega (arith, n))
-begin-fault writes old new head size lsn _ (no_room e lt same) alive s n z = begin_no_room (omega (arith, s, z, ap (λ (k : ℕ). length (frame k head)) n))
-begin-fault writes old new head size lsn _ (append_failed room ended gave) alive s n z = begin_failed
+  wiped-unsynced zeros are gave synced = as-error new (Sync false ∷ Wipe size true ∷ [], (mid, (old, refl, subst (λ (t : List ℕ). writes old 0 t true mid) are gave), synced), was_unsynced)
 
 -- after a refusal a log is as it was, or has ended
 pub same-or-ended : {S : Type 0} (writes : Transfer S) (old new : LogFile S) (payload : List ℕ) (fault : LogFault) → AppendFault writes old payload new fault → (new ≡ old) ⊎ (new.is_ended ≡ true)
@@ -282,11 +314,6 @@ same-or-ended writes old new payload _ (no_memory e same) = inl same
 same-or-ended writes old new payload _ (no_lsn e le same) = inl same
 same-or-ended writes old new payload _ (no_room e lt same) = inl same
 same-or-ended writes old new payload _ (append_failed room ended gave) = inr ended
-
-pub memory-or-failed : {A : Type 0} (size lsn : ℕ) (head : List ℕ) (r : Result A LogFault) (fault : LogFault) → IsErrAnd r (λ e. e ≡ fault) → (fault ≡ Memory) ⊎ (fault ≡ Device) → IfErr r (BeginFault size lsn head)
-memory-or-failed size lsn head (Ok x) fault k why = tt
-memory-or-failed size lsn head (Err x) fault k (inl e) = subst (BeginFault size lsn head) (sym (k ∙ e)) begin_no_memory
-memory-or-failed size lsn head (Err x) fault k (inr e) = subst (BeginFault size lsn head) (sym (k ∙ e)) begin_failed
 
 -- ---- each moment of calls that begin a log, and of those that write one again
 

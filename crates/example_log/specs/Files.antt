@@ -1,16 +1,18 @@
 -- A file of bytes, by the calls that were made of it: what was written, and what a crash may leave.
 -- Each list of calls is newest first.
-use Rattle.std.specs.Prelude.{◌≡◌, ◌⊎◌, ℕ, ◌+◌, ◌<◌, ◌≤◌, Bool, true, false, not, ◌&&◌, ◌||◌, if◌then◌else◌, List, [], ◌∷◌, length, slice_index}
+use Rattle.std.specs.Prelude.{◌≡◌, ◌⊎◌, ℕ, ◌+◌, ◌<◌, ◌≤◌, Bool, true, false, not, ◌&&◌, ◌||◌, if◌then◌else◌, List, [], ◌∷◌, length, replicate, slice_index}
 use Rattle.std.specs.Bool.{MatchBool}
 use Rattle.bp_page.specs.Patched.{patched}
 use Rattle.bp_ports.specs.Files.{Transfer, StoreSync}
 
 -- a read of these bytes, and a write of them, from a byte on, and a sync, that was good or not. And a
--- write of the whole file, with the records that were read of it and zeros behind them
+-- write of the whole file, with the records that were read of it and zeros behind them, or with zeros
+-- alone, of which there are so many
 pub data FileCall : Type 0 where
   Read : ℕ → List ℕ → Bool → FileCall
   Write : ℕ → List ℕ → Bool → FileCall
   Again : List ℕ → Bool → FileCall
+  Wipe : ℕ → Bool → FileCall
   Sync : Bool → FileCall
 
 -- what a store says of one call, and that these calls led from it, as it was, to it, as it is
@@ -20,6 +22,8 @@ FileDoes reads writes syncs store (FileCall.Read start bytes good) after =
 FileDoes reads writes syncs store (FileCall.Write start bytes good) after =
     writes store start bytes good after
 FileDoes reads writes syncs store (FileCall.Again bytes good) after = writes store 0 bytes good after
+FileDoes reads writes syncs store (FileCall.Wipe size good) after =
+    writes store 0 (replicate size 0) good after
 FileDoes reads writes syncs store (FileCall.Sync good) after = syncs store good after
 
 abbrev pub FileDid : {S : Type 0} → Transfer S → Transfer S → StoreSync S → S → List FileCall → S → Type 0
@@ -28,11 +32,13 @@ FileDid {S} reads writes syncs store (call ∷ older) after =
     (between : S) × FileDid reads writes syncs store older between
     × FileDoes reads writes syncs between call after
 
--- some write or sync failed, and the file was not written again as a whole since
+-- some write or sync failed, and the file was not written as a whole since: after a sync that failed a
+-- good one counts again once each byte was written again
 abbrev pub failed : List FileCall → Bool
 failed [] = false
 failed (FileCall.Write start bytes good ∷ older) = not good || failed older
 failed (FileCall.Again bytes good ∷ older) = not good
+failed (FileCall.Wipe size good ∷ older) = not good
 failed (FileCall.Sync good ∷ older) = not good || failed older
 failed (_ ∷ older) = failed older
 
@@ -41,6 +47,7 @@ abbrev pub written : List ℕ → List FileCall → List ℕ
 written first [] = first
 written first (FileCall.Write start bytes good ∷ older) = patched start bytes (written first older)
 written first (FileCall.Again bytes good ∷ older) = patched 0 bytes (written first older)
+written first (FileCall.Wipe size good ∷ older) = patched 0 (replicate size 0) (written first older)
 written first (_ ∷ older) = written first older
 
 -- a good sync makes durable all that was written, unless a call had failed before it
@@ -59,6 +66,7 @@ abbrev pub Unsure : List FileCall → ℕ → Type 0
 Unsure [] i = ⊥
 Unsure (FileCall.Write start bytes good ∷ older) i =
     ((start ≤ i) × (i < start + length bytes)) ⊎ Unsure older i
+Unsure (FileCall.Wipe size good ∷ older) i = (i < size) ⊎ Unsure older i
 Unsure (FileCall.Sync good ∷ older) i = MatchBool (settles good older) ⊥ (Unsure older i)
 Unsure (_ ∷ older) i = Unsure older i
 

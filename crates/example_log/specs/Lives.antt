@@ -2,15 +2,14 @@
 -- records have LSNs that go up by one.
 use Rattle.std.specs.Prelude.{◌≡◌, ◌⊎◌, ℕ, ◌+◌, ◌-◌, ◌≤◌, Bool, true, false, if◌then◌else◌, List, [], ◌∷◌, ◌++◌, length, take, drop, replicate}
 use Rattle.example_log.specs.Frames.{frame, frames, IsRecord, NoFrame}
-use Rattle.example_log.specs.Files.{FileCall, FileLeaves, failed, synced as synced_bytes, written}
+use Rattle.example_log.specs.Files.{FileCall, FileLeaves, synced as synced_bytes, written}
 
 -- The calls of a log that begins at an LSN, its records, and how many of them were synced: the file
 -- is wiped, and then a record is put behind the last one, or the file is synced. After a call that
 -- failed there is none, nor once the log is ended.
 pub data LogLife (first : List ℕ) (start : ℕ) : Bool → List FileCall → List (List ℕ) → ℕ → Type 0 where
-  wiped : {before : List FileCall} → failed before ≡ false → length (written first before) ≡ length first
-      → LogLife first start true
-      (FileCall.Sync true ∷ FileCall.Write 0 (replicate (length first) 0) true ∷ before) [] 0
+  wiped : {before : List FileCall} → length (written first before) ≡ length first
+      → LogLife first start true (FileCall.Sync true ∷ FileCall.Wipe (length first) true ∷ before) [] 0
   appended : {calls : List FileCall} {log : List (List ℕ)} {durable : ℕ} (payload : List ℕ) (good : Bool)
       → LogLife first start true calls log durable → IsRecord (start + length log) payload
       → length (frames start log) + length (frame (start + length log) payload) ≤ length first

@@ -6,7 +6,7 @@ use Rattle.example_log.specs.declared.log.LogFile.{LogFile}
 use Rattle.example_log.specs.declared.log.LogFault.{LogFault}
 use Rattle.example_log.specs.declared.log.LogFault.TheVariants.{Memory, Device as FileFailed, Full, Ended}
 use Rattle.example_log.specs.Frames.{frame, frames, IsRecord}
-use Rattle.example_log.specs.Files.{FileCall, FileDid, failed as has_failed, written}
+use Rattle.example_log.specs.Files.{FileCall, FileDid, written}
 use Rattle.example_log.specs.Lives.{LogLife}
 
 -- a log that lived so, and, if it is not ended, where its next record is to stand
@@ -47,13 +47,6 @@ pub data AppendFault {S : Type 0} (writes : Transfer S) (old : LogFile S) (paylo
       → writes old.store old.end (frame old.next payload) false new.store
       → AppendFault writes old payload new FileFailed
 
--- why a log was not begun in a file of so many bytes
-pub data BeginFault (size lsn : ℕ) (head : List ℕ) : LogFault → Type 0 where
-  no_memory : BeginFault size lsn head Memory
-  failed : BeginFault size lsn head FileFailed
-  no_lsn : 2 ^ 64 - 1 ≤ lsn → BeginFault size lsn head Full
-  no_room : size < length (frame lsn head) → BeginFault size lsn head Full
-
 -- the next record is to stand where it was to
 abbrev pub SamePlace : {S : Type 0} → LogFile S → LogFile S → Type 0
 SamePlace old new = (new.size ≡ old.size) × (new.end ≡ old.end) × (new.next ≡ old.next)
@@ -74,12 +67,12 @@ pub record GoesOn {S : Type 0} (reads writes : Transfer S) (syncs : StoreSync S)
 -- the calls by which a file is wiped, some of them or all
 pub data Wipes (size : ℕ) : List FileCall → Type 0 where
   nothing : Wipes size []
-  wrote : (good : Bool) → Wipes size (FileCall.Write 0 (replicate size 0) good ∷ [])
-  unsynced : Wipes size (FileCall.Sync false ∷ FileCall.Write 0 (replicate size 0) true ∷ [])
+  wrote : (good : Bool) → Wipes size (FileCall.Wipe size good ∷ [])
+  unsynced : Wipes size (FileCall.Sync false ∷ FileCall.Wipe size true ∷ [])
 
 -- all of them
 abbrev pub wiped_by : ℕ → List FileCall
-wiped_by size = FileCall.Sync true ∷ FileCall.Write 0 (replicate size 0) true ∷ []
+wiped_by size = FileCall.Sync true ∷ FileCall.Wipe size true ∷ []
 
 -- a file that was wiped, durably, or why not
 abbrev pub WipesFile : {S : Type 0} → Transfer S → Transfer S → StoreSync S → ℕ → S → Bool → S → Type 0
@@ -97,21 +90,46 @@ pub data Settles (bytes : List ℕ) : List FileCall → Bool → Type 0 where
 -- the calls by which a log with one record is begun in a file of so many bytes, some of them or all
 pub data BeginsBy (size start : ℕ) (head : List ℕ) : List FileCall → Type 0 where
   wiping : {calls : List FileCall} → Wipes size calls → BeginsBy size start head calls
-  wiped : BeginsBy size start head
-      (FileCall.Sync true ∷ FileCall.Write 0 (replicate size 0) true ∷ [])
+  wiped : BeginsBy size start head (FileCall.Sync true ∷ FileCall.Wipe size true ∷ [])
   wrote : (good : Bool) → IsRecord start head → length (frame start head) ≤ size
       → BeginsBy size start head (FileCall.Write 0 (frame start head) good ∷ FileCall.Sync true
-      ∷ FileCall.Write 0 (replicate size 0) true ∷ [])
+      ∷ FileCall.Wipe size true ∷ [])
   synced : (good : Bool) → IsRecord start head → length (frame start head) ≤ size
       → BeginsBy size start head (FileCall.Sync good ∷ FileCall.Write 0 (frame start head) true
-      ∷ FileCall.Sync true ∷ FileCall.Write 0 (replicate size 0) true ∷ [])
+      ∷ FileCall.Sync true ∷ FileCall.Wipe size true ∷ [])
 
--- a log that was begun so, whatever the file had, if no call of it had failed
+-- the last of these calls failed
+abbrev pub ends_badly : List FileCall → Bool
+ends_badly [] = false
+ends_badly (FileCall.Read start bytes good ∷ older) = not good
+ends_badly (FileCall.Write start bytes good ∷ older) = not good
+ends_badly (FileCall.Again bytes good ∷ older) = not good
+ends_badly (FileCall.Wipe size good ∷ older) = not good
+ends_badly (FileCall.Sync good ∷ older) = not good
+
+-- why the calls that a file was to have stopped: memory was short, and there was none; or the last failed
+pub data StopFault {S : Type 0} (reads writes : Transfer S) (syncs : StoreSync S)
+    (By : List FileCall → Type 0) (old new : S) : LogFault → Type 0 where
+  no_memory : new ≡ old → StopFault reads writes syncs By old new Memory
+  failed : (calls : List FileCall) → FileDid reads writes syncs old calls new → By calls
+      → ends_badly calls ≡ true → StopFault reads writes syncs By old new FileFailed
+
+-- why a log was not begun in a file of so many bytes
+pub data BeginFault {S : Type 0} (reads writes : Transfer S) (syncs : StoreSync S) (size lsn : ℕ)
+    (head : List ℕ) (old new : S) : LogFault → Type 0 where
+  no_memory : BeginFault reads writes syncs size lsn head old new Memory
+  failed : (calls : List FileCall) → FileDid reads writes syncs old calls new
+      → BeginsBy size lsn head calls → ends_badly calls ≡ true
+      → BeginFault reads writes syncs size lsn head old new FileFailed
+  no_lsn : 2 ^ 64 - 1 ≤ lsn → BeginFault reads writes syncs size lsn head old new Full
+  no_room : size < length (frame lsn head) → BeginFault reads writes syncs size lsn head old new Full
+
+-- a log that was begun so, whatever the file had, also where calls of it had failed
 pub record Begins {S : Type 0} (reads writes : Transfer S) (syncs : StoreSync S) (old new : LogFile S)
     (start : ℕ) (head : List ℕ) (good : Bool) : Type 0 where
   pub calls : List FileCall
   pub did : FileDid reads writes syncs old.store calls new.store
   pub by : BeginsBy old.size start head calls
-  pub is : good ≡ true → (first : List ℕ) (before : List FileCall) → has_failed before ≡ false
+  pub is : good ≡ true → (first : List ℕ) (before : List FileCall)
       → length (written first before) ≡ length first → old.size ≡ length first
       → IsLogFile first start (calls ++ before) (head ∷ []) 1 new

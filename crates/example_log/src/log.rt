@@ -3,7 +3,7 @@ ghost use Rattle.std.specs.Prelude.{◌≡◌, ◌⊎◌, ◌+◌, ◌-◌, ◌�
 ghost use Rattle.example_log.specs.declared.log.LogFault.TheVariants.{Memory, Device as FileFailed};
 ghost use Rattle.example_log.specs.Files.{FileCall, FileDid};
 ghost use Rattle.example_log.specs.Frames.{frame};
-ghost use Rattle.example_log.specs.LogFiles.{IsLogFile, IsUnread, AppendFault, BeginFault, EndsOnError, HasRoom, SamePlace, GoesOn, Begins, Settles, WipesFile};
+ghost use Rattle.example_log.specs.LogFiles.{IsLogFile, IsUnread, AppendFault, BeginFault, StopFault, EndsOnError, HasRoom, SamePlace, GoesOn, Begins, Settles, Wipes, WipesFile};
 
 use crate::frames::put_frame;
 use crate::store::LogStore;
@@ -189,7 +189,10 @@ impl<S: Drop> LogFile<S> {
             self.old.store calls self.new.store
             × Settles (records.now ++ replicate (self.old.size - length records.now) 0) calls
             (is_ok result) }
-        ensures fault { IfErr result (λ why. (why ≡ Memory) ⊎ (why ≡ FileFailed)) }
+        ensures fault { IfErr result (StopFault (S.reads pages.now) (S.writes pages.now)
+            (S.syncs pages.now) (λ calls.
+            Settles (records.now ++ replicate (self.old.size - length records.now) 0) calls false)
+            self.old.store self.new.store) }
     {
         let mut bytes = Vec::new(alloc);
         bytes.extend_from_slice(records)?;
@@ -200,15 +203,16 @@ impl<S: Drop> LogFile<S> {
         Ok(())
     }
 
-    /// Writes zeros over the whole file, and makes them durable: what a crash then leaves has no record. The log has ended.
-    /// `Memory`, and `Device` where the file fails.
+    /// Writes zeros over the whole file, and makes them durable: what a crash then leaves has no record, also where a write
+    /// or a sync of the file had failed. The log has ended. `Memory`, and `Device` where the file fails.
     pub fn wipe<P>(&mut self, alloc: Global, pages: &P) -> Result<(), LogFault>
     where
         S: LogStore<P>,
         ensures wiped { WipesFile (S.reads pages.now) (S.writes pages.now) (S.syncs pages.now)
             self.old.size self.old.store (is_ok result) self.new.store }
         ensures ended { self.new.is_ended ≡ true }
-        ensures fault { IfErr result (λ why. (why ≡ Memory) ⊎ (why ≡ FileFailed)) }
+        ensures fault { IfErr result (StopFault (S.reads pages.now) (S.writes pages.now)
+            (S.syncs pages.now) (Wipes self.old.size) self.old.store self.new.store) }
         ensures same { SamePlace self.old self.new }
     {
         self.is_ended = true;
@@ -219,8 +223,8 @@ impl<S: Drop> LogFile<S> {
     }
 
     /// Wipes the file, and begins a log with this first record at an LSN from 1 on, which is then durable. What was in the
-    /// file counts until it is wiped. After an error the log has ended: `Memory`, `Device`, and `Full` where the file has
-    /// no room for the record or the LSN is 2^64-1.
+    /// file counts until it is wiped, and a call of it that failed before does not. After an error the log has ended:
+    /// `Memory`, `Device`, and `Full` where the file has no room for the record or the LSN is 2^64-1.
     pub fn begin<P>(
         &mut self,
         alloc: Global,
@@ -234,7 +238,8 @@ impl<S: Drop> LogFile<S> {
         ensures alive { OnOk result (self.new.is_ended ≡ false) }
         ensures ended { OnErr result (self.new.is_ended ≡ true) }
         ensures size { self.new.size ≡ self.old.size }
-        ensures fault { IfErr result (BeginFault self.old.size lsn head.now) }
+        ensures fault { IfErr result (BeginFault (S.reads pages.now) (S.writes pages.now)
+            (S.syncs pages.now) self.old.size lsn head.now self.old.store self.new.store) }
         ensures begins { Begins (S.reads pages.now) (S.writes pages.now) (S.syncs pages.now)
             self.old self.new lsn head.now (is_ok result) }
     {

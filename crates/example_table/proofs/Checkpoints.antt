@@ -421,7 +421,7 @@ module _ {S P : Type 0} (reads writes : P → Transfer S) (syncs : P → StoreSy
 
   module _ (mid : OwnedView P) (mid_log : LogFile S) (d : TableGoes reads writes syncs page_reads page_writes page_syncs old mid old_log mid_log table cut file start calls log_calls commits records (λ after n left. (after ≡ commits) × (left ≡ []) × (n ≡ 1 + length commits)))
       (h : HasSaved page_reads page_writes page_syncs mid new mid_log table cut file start (pages_in d.steps ++ calls) (log_in d.steps ++ log_calls) commits (1 + length commits) []) (alive : mid_log.is_ended ≡ false)
-      (at : P) (there : at ≡ new.port) (lsn : ℕ) (head : List ℕ) (lsn-is : lsn ≡ max mid_log.next 1) (head-is-table : head ≡ table) (well : failed before ≡ false) (long : length (written_bytes other before) ≡ length other) (size : spare.size ≡ length other) where
+      (at : P) (there : at ≡ new.port) (lsn : ℕ) (head : List ℕ) (lsn-is : lsn ≡ max mid_log.next 1) (head-is-table : head ≡ table) (long : length (written_bytes other before) ≡ length other) (size : spare.size ≡ length other) where
     as_before : new.core.parameters ≡ old.core.parameters
     as_before = h.parameters ∙ d.parameters
 
@@ -530,13 +530,13 @@ module _ {S P : Type 0} (reads writes : P → Transfer S) (syncs : P → StoreSy
     pub does-move : (begun_log : LogFile S) → BeginsLog (reads at) (writes at) (syncs at) spare begun_log lsn head true → new_log ≡ begun_log → new_spare ≡ mid_log → Does (Ok tt)
     unfolding moves-on
     does-move begun_log b is spare_is =
-        let k = begun-there true begun_log b other before well long size in
+        let k = begun-there true begun_log b other before long size in
         subst (λ (l : LogFile S). Checkpoints reads writes syncs page_reads page_writes page_syncs old new old_log l spare new_spare table cut file start calls log_calls commits records other before (Ok tt)) (sym is)
         (subst (λ (l : LogFile S). Checkpoints reads writes syncs page_reads page_writes page_syncs old new old_log begun_log spare l table cut file start calls log_calls commits records other before (Ok tt)) (sym spare_is)
         (moved (moves-on begun_log k.0 k.1 k.2) (goes-on begun_log k.0 k.1 k.2 (k.3 refl))))
 
     pub does-begin : BeginsLog (reads at) (writes at) (syncs at) spare new_spare lsn head false → new_log ≡ mid_log → (why : TableFault) → Does (Err why)
     does-begin b is why =
-        let k = begun-there false new_spare b other before well long size in
+        let k = begun-there false new_spare b other before long size in
         subst (λ (l : LogFile S). Checkpoints reads writes syncs page_reads page_writes page_syncs old new old_log l spare new_spare table cut file start calls log_calls commits records other before (Err why)) (sym is)
         (was_moving (moves-on new_spare k.0 k.1 k.2))

@@ -1,6 +1,6 @@
 -- Why a call of a table is refused.
-use Rattle.std.proofs.Common.{◌≡◌, inl, inr, refl, ap, subst, ◌∙◌, ℕ, List, [], ◌∷◌, ◌++◌, length, map, arith}
-use Rattle.std.specs.Prelude.{Result, Ok, Err, IfErr}
+use Rattle.std.proofs.Common.{◌≡◌, inl, inr, refl, ap, subst, ◌∙◌, ℕ, Bool, false, List, [], ◌∷◌, ◌++◌, length, map, arith}
+use Rattle.std.specs.Prelude.{Result, Ok, Err, IfErr, slice_index_or}
 use Rattle.bp_ports.specs.Files.{Transfer}
 use Rattle.bp_trail.specs.declared.records.LogRecord.{LogRecord}
 use Rattle.example_log.specs.declared.log.LogFile.{LogFile}
@@ -13,7 +13,7 @@ use Rattle.example_log.specs.LogFiles.AppendFault.{has_ended, no_memory, no_lsn,
 use Rattle.example_table.specs.declared.table.TableFault.{TableFault}
 use Rattle.example_table.specs.declared.table.TableFault.TheVariants.{Log}
 use Rattle.example_table.specs.Faults.{IsFullFor, LacksRoom}
-use Rattle.example_table.specs.Images.{AreLogged}
+use Rattle.example_table.specs.Images.{AreImagedOnce}
 use Rattle.example_table.specs.TableCalls.{under}
 
 -- a payload tells no LSN
@@ -35,7 +35,7 @@ moved-room : {S : Type 0} (old mid : LogFile S) (payload : List ℕ) → SamePla
 moved-room old mid payload same (inl late) = inl (omega (arith, same.2))
 moved-room old mid payload same (inr small) = inr (omega (arith, same.0, same.1, ap (λ (n : ℕ). length (frame n payload)) same.2))
 
-pub full-after : {S : Type 0} (size : ℕ) (old mid : LogFile S) (changes made : List LogRecord) (result : Result ℕ TableFault) → SamePlace old mid → AreLogged size changes made
-    → IfErr result (λ why. why ≡ Log Full → LacksRoom mid (payload_of made)) → IfErr result (λ why. why ≡ Log Full → IsFullFor size old changes)
-full-after size old mid changes made (Ok lsn) same logged h = tt
-full-after size old mid changes made (Err why) same logged h = λ full. (made, logged, moved-room old mid (payload_of made) same (h full))
+pub full-after : {S : Type 0} (size : ℕ) (flags : List Bool) (old mid : LogFile S) (changes made : List LogRecord) (result : Result ℕ TableFault) → SamePlace old mid → AreImagedOnce size (λ p. slice_index_or flags p false) changes made
+    → IfErr result (λ why. why ≡ Log Full → LacksRoom mid (payload_of made)) → IfErr result (λ why. why ≡ Log Full → IsFullFor size flags old changes)
+full-after size flags old mid changes made (Ok lsn) same once h = tt
+full-after size flags old mid changes made (Err why) same once h = λ full. (made, once, moved-room old mid (payload_of made) same (h full))

@@ -21,13 +21,13 @@ use Rattle.example_table.specs.declared.table.TableFault.{TableFault}
 use Rattle.example_log.specs.Commits.{AreCommits, HasCommits, changes_of, log_of, payload_of}
 use Rattle.example_log.specs.Disk.{DeviceCall, Did, Reads, Writes, Syncs, Honest, MayBring, MayLeave, Partly, is_good_sync, sync_failed}
 use Rattle.bp_trail.specs.Lists.{some}
-use Rattle.example_log.specs.Files.{FileCall, FileDid, FileLeaves, IsSettled, SettledLeaves, Unsure, failed, settles, synced, written}
-use Rattle.example_log.specs.Files.FileCall.{Read, Write, Sync}
+use Rattle.example_log.specs.Files.{FileCall, FileDid, FileLeaves, IsSettled, SettledLeaves, Unsure, settles, synced, written}
+use Rattle.example_log.specs.Files.FileCall.{Read, Write, Wipe, Sync}
 use Rattle.example_log.specs.Files.IsSettled.{settled as was_settled, again as settled_again, resynced as settled_synced}
 use Rattle.example_log.specs.Frames.{IsRecord, NoFrame, frame, frames}
 use Rattle.example_log.specs.Lives.{AreRecords, LogLife, Reopened, SameAt, TellsTrue}
 use Rattle.example_log.specs.Lives.Reopened.{ended}
-use Rattle.example_log.specs.LogFiles.{Begins, BeginsBy, IsLogFile, IsUnread, Settles, Wipes, WipesFile}
+use Rattle.example_log.specs.LogFiles.{BeginFault, Begins, BeginsBy, IsLogFile, IsUnread, Settles, StopFault, Wipes, WipesFile}
 use Rattle.example_log.specs.LogFiles.BeginsBy.{wiping as by_wiping, wiped as by_wiped, wrote as by_wrote, synced as by_synced}
 use Rattle.example_log.specs.Lives.LogLife.{wiped as was_wiped, appended, synced as was_synced, unsynced as not_synced}
 use Rattle.example_log.specs.Moments.{AtEach, Made, Step, log_in, pages_in, spare_in}
@@ -38,7 +38,7 @@ use Rattle.example_table.specs.Opening.IsOpening.{settling, redoing as redoing_i
 use Rattle.example_table.specs.Opening.MovesLog.{unsettled, stopped, moved}
 use Rattle.example_log.specs.LogFiles.IsUnread.{no_memory, failed as failed_read}
 use Rattle.example_log.specs.LogFiles.Wipes.{nothing, wrote, unsynced}
-use Rattle.example_table.specs.Opening.{AreWithin, Beginning, BeginsBefore, BeginsLog, CreatesLog, EmptiesFile, IsEmptied, FindsLog, Found, IsNewer, IsInOrder, IsOnlyRead, IsOpening, MayBeOpened, MoveFault, Moves, MovesLog, again_of}
+use Rattle.example_table.specs.Opening.{AreWithin, Beginning, BeginsBefore, BeginsLog, CreatesLog, EmptiesFile, IsEmptied, FindsLog, Found, IsNewer, IsInOrder, IsOnlyRead, IsOpening, LogRefused, MayBeOpened, MoveFault, Moves, MovesLog, again_of}
 use Rattle.example_table.specs.Opening.Beginning.{wiping, begun as was_begun}
 use Rattle.example_log.specs.Promise.{MayBeRedone, Recovers, RecoversThroughout}
 use Rattle.example_log.proofs.CommitsRead.{head-is, head-same, payload-same, whole-commits}
@@ -140,17 +140,17 @@ begun-so : (first : List ℕ) (start : ℕ) (calls : List FileCall) (alive : Boo
     → Beginning first start table before calls
 begun-so first start calls alive table before log durable life is = was_begun life is ended
 
-module _ (first : List ℕ) (start : ℕ) (table : List ℕ) (before : List FileCall) (well : failed before ≡ false) (long : length (written first before) ≡ length first) where
+module _ (first : List ℕ) (start : ℕ) (table : List ℕ) (before : List FileCall) (long : length (written first before) ≡ length first) where
   abbrev Begins_at : List FileCall → Type 0
   Begins_at so_far = Beginning first start table before (so_far ++ before)
 
-  empty-life : LogLife first start true (Sync true ∷ Write 0 (replicate (length first) 0) true ∷ before) [] 0
-  empty-life = was_wiped well long
+  empty-life : LogLife first start true (Sync true ∷ Wipe (length first) true ∷ before) [] 0
+  empty-life = was_wiped long
 
-  one-life : (good : Bool) → IsRecord start table → length (frame start table) ≤ length first → LogLife first start good (Write 0 (frame start table) good ∷ Sync true ∷ Write 0 (replicate (length first) 0) true ∷ before) (table ∷ []) 0
+  one-life : (good : Bool) → IsRecord start table → length (frame start table) ≤ length first → LogLife first start good (Write 0 (frame start table) good ∷ Sync true ∷ Wipe (length first) true ∷ before) (table ∷ []) 0
   one-life good fit room =
       let e : start ≡ start + 0 = omega arith in
-      subst (λ (n : ℕ). LogLife first start good (Write 0 (frame n table) good ∷ Sync true ∷ Write 0 (replicate (length first) 0) true ∷ before) (table ∷ []) 0) (sym e)
+      subst (λ (n : ℕ). LogLife first start good (Write 0 (frame n table) good ∷ Sync true ∷ Wipe (length first) true ∷ before) (table ∷ []) 0) (sym e)
       (appended table good empty-life (subst (λ (n : ℕ). IsRecord n table) e fit) (subst (λ (n : ℕ). 0 + length (frame n table) ≤ length first) e (omega arith)))
 
   first-wipe : (calls : List FileCall) → Wipes (length first) calls → AtEach Begins_at calls
@@ -158,7 +158,7 @@ module _ (first : List ℕ) (start : ℕ) (table : List ℕ) (before : List File
   first-wipe _ (wrote good) = (wiping (wrote good), wiping nothing)
   first-wipe _ unsynced = (wiping unsynced, (wiping (wrote true), wiping nothing))
 
-  wiped-each : AtEach Begins_at (Sync true ∷ Write 0 (replicate (length first) 0) true ∷ [])
+  wiped-each : AtEach Begins_at (Sync true ∷ Wipe (length first) true ∷ [])
   wiped-each = (begun-so first start _ true table before [] 0 empty-life (inl refl), (wiping (wrote true), wiping nothing))
 
   pub each-beginning : (calls : List FileCall) → BeginsBy (length first) start table calls → AtEach Begins_at calls
@@ -167,16 +167,16 @@ module _ (first : List ℕ) (start : ℕ) (table : List ℕ) (before : List File
   each-beginning _ (by_wrote good fit room) = (begun-so first start _ good table before (table ∷ []) 0 (one-life good fit room) (inr refl), wiped-each)
   each-beginning _ (by_synced good fit room) = (last good, (begun-so first start _ true table before (table ∷ []) 0 (one-life true fit room) (inr refl), wiped-each))
     where
-      last : (good : Bool) → Begins_at (Sync good ∷ Write 0 (frame start table) true ∷ Sync true ∷ Write 0 (replicate (length first) 0) true ∷ [])
+      last : (good : Bool) → Begins_at (Sync good ∷ Write 0 (frame start table) true ∷ Sync true ∷ Wipe (length first) true ∷ [])
       last true = begun-so first start _ true table before (table ∷ []) 1 (was_synced (one-life true fit room)) (inr refl)
       last false = begun-so first start _ false table before (table ∷ []) 0 (not_synced (one-life true fit room)) (inr refl)
 
 pub begins-log : {S : Type 0} (reads writes : Transfer S) (syncs : StoreSync S) (old new : LogFile S) (start : ℕ) (table : List ℕ) (good : Bool) → Begins reads writes syncs old new start table good → BeginsLog reads writes syncs old new start table good
-begins-log reads writes syncs old new start table good b = λ file before well long size. (
+begins-log reads writes syncs old new start table good b = λ file before long size. (
   b.calls,
   b.did,
-  each-beginning file start table before well long b.calls (subst (λ (n : ℕ). BeginsBy n start table b.calls) size b.by),
-  λ e. b.is e file before well long size,
+  each-beginning file start table before long b.calls (subst (λ (n : ℕ). BeginsBy n start table b.calls) size b.by),
+  λ e. b.is e file before long size,
 )
 
 -- zeros have no record
@@ -229,15 +229,15 @@ module _ (older : List ℕ) (before : List FileCall) (long : length (written old
         go below (inr same) = from (written older (more ++ before)) below.1 same
 
   -- what a crash leaves of a file that was wiped durably has no record
-  module _ (well : failed before ≡ false) where
+  module _ where
     abbrev wipe : List FileCall
-    wipe = Write 0 zeros true ∷ before
+    wipe = Wipe (length older) true ∷ before
 
     all-zeros : (left : List ℕ) → FileLeaves older (Sync true ∷ wipe) left → left ≡ zeros
     all-zeros left leaves = ext_get_or 0 left zeros (leaves.long ∙ sym (length-replicate {A = ℕ} (length older) 0)) (λ i lt. at i (leaves.each i lt))
       where
         yes : settles true wipe ≡ true
-        yes = ap not well
+        yes = refl
 
         sure : (b : Bool) (P : Type 0) → b ≡ true → MatchBool b ⊥ P → ⊥
         sure true P e h = h
@@ -253,10 +253,10 @@ module _ (older : List ℕ) (before : List FileCall) (long : length (written old
 
     pub is-emptied : IsEmptied older (Sync true ∷ wipe)
     is-emptied = record {
-      well = well;
+      well = refl;
       long = ap (λ (t : List ℕ). length t) zeros-are ∙ length-replicate {A = ℕ} (length older) 0;
       last = subst NoFrame (sym zeros-are) (zeros-none (length older));
-      durably = subst NoFrame (sym (all-durable (settles true wipe) (ap not well))) (zeros-none (length older));
+      durably = subst NoFrame (sym (all-durable (settles true wipe) refl)) (zeros-none (length older));
       left = λ bytes leaves. subst NoFrame (sym (all-zeros bytes leaves)) (zeros-none (length older));
     }
       where
@@ -504,9 +504,13 @@ module _ {S P : Type 0} (reads writes : P → Transfer S) (syncs : P → StoreSy
   settle-order : Ordered old old_older
   settle-order = record { steps = map OfLog calls; did = settle-did; each = settle-each }
 
-  pub was-unsettled : good ≡ false → (why : TableFault) → MovesLog reads writes syncs page_reads page_writes page_syncs device table newer older old old_newer old_older (Err why) old new_newer old_older
+  abbrev Unsettled : TableFault → Type 0
+  Unsettled why = LogRefused (StopFault (reads old) (writes old) (syncs old) (λ cs. Settles (again_of f.is_newer) cs false) old_newer.store new_newer.store) why
+
+  pub was-unsettled : good ≡ false → (why : TableFault) → Unsettled why → MovesLog reads writes syncs page_reads page_writes page_syncs device table newer older old old_newer old_older (Err why) old new_newer old_older
   unfolding settle-order
-  was-unsettled bad why = unsettled f why settle-order ((of-log calls).0, (of-log calls).2) (subst (λ (b : Bool). Settles (again_of f.is_newer) (log_in (map OfLog calls)) b) bad (subst (λ (cs : List FileCall). Settles (again_of f.is_newer) cs good) (sym (of-log calls).1) settled))
+  was-unsettled bad why cause =
+      unsettled f why settle-order ((of-log calls).0, (of-log calls).2) (subst (λ (b : Bool). Settles (again_of f.is_newer) (log_in (map OfLog calls)) b) bad (subst (λ (cs : List FileCall). Settles (again_of f.is_newer) cs good) (sym (of-log calls).1) settled)) cause
 
   module _ (well : good ≡ true) (new : P) (done : Bool) (r : Redid page_reads page_writes page_syncs device f.changes old done new) where
     abbrev redo_steps : List DeviceCall → List Step
@@ -584,13 +588,14 @@ module _ {S P : Type 0} (reads writes : P → Transfer S) (syncs : P → StoreSy
         each = each-append Opening (map OfSpare b.calls) since (each-append Opening (map OfPages r.calls) (map OfLog calls) settle-each redo-each) begin-each;
       }
 
-      pub was-moved : (result : Result (Unit {0}) TableFault) → is_ok result ≡ is_begun → MovesLog reads writes syncs page_reads page_writes page_syncs device table newer older old old_newer old_older result new new_newer new_older
+      pub was-moved : (result : Result (Unit {0}) TableFault) → is_ok result ≡ is_begun → IfErr result (LogRefused (BeginFault (reads new) (writes new) (syncs new) old_older.size (f.last + 1) table old_older.store new_older.store))
+          → MovesLog reads writes syncs page_reads page_writes page_syncs device table newer older old old_newer old_older result new new_newer new_older
       unfolding begin-order
-      was-moved result told =
+      was-moved result told cause =
           let none : spare_in (map OfSpare b.calls ++ since) ≡ b.calls = spare-then (map OfSpare b.calls) ∙ (of-spare b.calls).2 in
           moved f result begin-order (whole-settled (log_in (map OfSpare b.calls ++ since)) (log-then (map OfSpare b.calls) (of-spare b.calls).1)) (whole-redone (pages_in (map OfSpare b.calls ++ since)) (pages-then (map OfSpare b.calls) (of-spare b.calls).0))
-          (subst (BeginsBy old_older.size (f.last + 1) table) (sym none) b.by)
-          (λ ok file before well long size. subst (λ (fs : List FileCall). IsLogFile file (f.last + 1) (fs ++ before) (table ∷ []) 1 new_older) (sym none) (b.is (sym told ∙ ok) file before well long size))
+          (subst (BeginsBy old_older.size (f.last + 1) table) (sym none) b.by) cause
+          (λ ok file before long size. subst (λ (fs : List FileCall). IsLogFile file (f.last + 1) (fs ++ before) (table ∷ []) 1 new_older) (sym none) (b.is (sym told ∙ ok) file before long size))
 
 module _ {S : Type 0} (reads writes : Transfer S) (syncs : StoreSync S) (old new : LogFile S) where
   pub was-unread : (why : LogFault) → IsUnread reads old.store new.store why → IsOnlyRead reads writes syncs old new
@@ -641,10 +646,10 @@ created-as reads writes syncs head one two new_one new_two (Ok x) fault k h = ab
 created-as reads writes syncs head one two new_one new_two (Err e) fault k h = subst (λ x. CreatesLog reads writes syncs head one two (Err x) new_one new_two) (sym k) h
 
 pub emptied : {S : Type 0} (reads writes : Transfer S) (syncs : StoreSync S) (old new : LogFile S) → WipesFile reads writes syncs old.size old.store true new.store → EmptiesFile reads writes syncs old new
-emptied reads writes syncs old new w = λ file before well long size. (
-  Sync true ∷ Write 0 (replicate (length file) 0) true ∷ [],
+emptied reads writes syncs old new w = λ file before long size. (
+  Sync true ∷ Wipe (length file) true ∷ [],
   (w.0, (old.store, refl, subst (λ (n : ℕ). writes old.store 0 (replicate n 0) true w.0) size w.1), w.2),
-  is-emptied file before long well,
+  is-emptied file before long,
 )
 
 -- ---- why an opening does not come to the logs

@@ -203,11 +203,11 @@ settled-all again _ _ (settles_synced good) e first before long = subst (λ (b :
 pub opening-mended : (tears : Bool) (device : Geometry) (wanted seen first left : ℕ → List ℕ) (table newer older newer_file file left_newer left_older : List ℕ) (begun last : ℕ) (changes : List LogRecord) (newer_before before : List FileCall) (so_far : List Step)
     → (is : IsNewer table newer older begun last changes) → IsOpening device (again_of is) table changes (last + 1) (length file) so_far → AreWithin device.pages device.size changes → MayBeRedone tears device.size 0 (reverse changes) wanted seen → MayBeRedone tears device.size 0 (reverse changes) wanted first
     → Honest tears seen (pages_in so_far) → ((p : ℕ) → MayLeave tears first (pages_in so_far) p (left p)) → length newer_file ≡ length (again_of is) → length (written_bytes newer_file newer_before) ≡ length (again_of is) → FileLeaves newer_file (log_in so_far ++ newer_before) left_newer
-    → failed before ≡ false → length (written_bytes file before) ≡ length file → BeginsBefore begun (synced_bytes file before) → BeginsBefore begun (written_bytes file before) → FileLeaves file (spare_in so_far ++ before) left_older
+    → length (written_bytes file before) ≡ length file → BeginsBefore begun (synced_bytes file before) → BeginsBefore begun (written_bytes file before) → FileLeaves file (spare_in so_far ++ before) left_older
     → TellsTrue (last + 1) (synced_bytes file (spare_in so_far ++ before)) (written_bytes file (spare_in so_far ++ before)) left_older
     → ((pages_in so_far ≡ []) × (spare_in so_far ≡ [])) ⊎ MayBeOpened tears device.size table left_newer left_older wanted left
-opening-mended tears device wanted seen first left table newer older newer_file file left_newer left_older begun last changes newer_before before so_far is (settling later no_pages no_spare settles e) within m k honest leaves size newer_long newer_left well long below_synced below_written older_left tells = inl (no_pages, no_spare)
-opening-mended tears device wanted seen first left table newer older newer_file file left_newer left_older begun last changes newer_before before so_far is (redoing_it none settles recovers) within m k honest leaves size newer_long newer_left well long below_synced below_written older_left tells =
+opening-mended tears device wanted seen first left table newer older newer_file file left_newer left_older begun last changes newer_before before so_far is (settling later no_pages no_spare settles e) within m k honest leaves size newer_long newer_left long below_synced below_written older_left tells = inl (no_pages, no_spare)
+opening-mended tears device wanted seen first left table newer older newer_file file left_newer left_older begun last changes newer_before before so_far is (redoing_it none settles recovers) within m k honest leaves size newer_long newer_left long below_synced below_written older_left tells =
     inr (redoing tears device.pages device.size wanted seen first left table newer older left_newer begun last changes is
     (record { first = newer_file; calls = log_in so_far ++ newer_before; long = size; settled = settled-all (again_of is) (log_in so_far) true settles refl newer_file newer_before newer_long; leaves = newer_left }) m k
     left_older false (pages_in so_far) [] (pages_in so_far) (go (spare_in so_far) none tells) honest recovers refl leaves)
@@ -215,11 +215,11 @@ opening-mended tears device wanted seen first left table newer older newer_file 
     go : (begins : List FileCall) → begins ≡ [] → TellsTrue (last + 1) (synced_bytes file (begins ++ before)) (written_bytes file (begins ++ before)) left_older → BeginsBefore begun left_older
     go [] e tells = λ lsn payload rest fit at. stood file before long begun below_synced below_written [] (last + 1) left_older nothing tells lsn payload rest fit at
     go (x ∷ begins) e tells = absurd (cc)
-opening-mended tears device wanted seen first left table newer older newer_file file left_newer left_older begun last changes newer_before before so_far is (beginning_it settles recovers pages_synced by) within m k honest leaves size newer_long newer_left well long below_synced below_written older_left tells =
+opening-mended tears device wanted seen first left table newer older newer_file file left_newer left_older begun last changes newer_before before so_far is (beginning_it settles recovers pages_synced by) within m k honest leaves size newer_long newer_left long below_synced below_written older_left tells =
     inr (beginning tears device.pages device.size wanted seen first left table newer older left_newer begun last changes is
     (record { first = newer_file; calls = log_in so_far ++ newer_before; long = size; settled = settled-all (again_of is) (log_in so_far) true settles refl newer_file newer_before newer_long; leaves = newer_left }) m k
     (pages_in so_far) within honest recovers leaves file left_older before (spare_in so_far ++ before) long below_synced below_written
-    (each-last (λ calls. Beginning file (last + 1) table before (calls ++ before)) (spare_in so_far) (each-beginning file (last + 1) table before well long (spare_in so_far) by)) older_left tells)
+    (each-last (λ calls. Beginning file (last + 1) table before (calls ++ before)) (spare_in so_far) (each-beginning file (last + 1) table before long (spare_in so_far) by)) older_left tells)
 
 pub stands-found : (c : Parameters) (table file bytes other : List ℕ) (cut : Cut) (start : ℕ) (calls : List DeviceCall) (log_calls : List FileCall) (commits after : List (List LogRecord)) (records : ℕ) → Stands c table cut file start calls log_calls commits after records → FileLeaves file log_calls bytes
     → TellsTrue start (synced_bytes file log_calls) (written_bytes file log_calls) bytes → BeginsBefore start other → (found last : ℕ) × (changes : List LogRecord) × FindsLog table bytes other found last changes
@@ -244,11 +244,11 @@ moving-found c table file other_file bytes other cut start calls log_calls befor
 
 pub opening-found : (tears : Bool) (device : Geometry) (table newer older newer_file file left_newer left_older : List ℕ) (begun last : ℕ) (changes : List LogRecord) (newer_before before : List FileCall) (so_far : List Step)
     → (is : IsNewer table newer older begun last changes) → IsOpening device (again_of is) table changes (last + 1) (length file) so_far → length newer_file ≡ length (again_of is) → length (written_bytes newer_file newer_before) ≡ length (again_of is) → FileLeaves newer_file (log_in so_far ++ newer_before) left_newer
-    → failed before ≡ false → length (written_bytes file before) ≡ length file → BeginsBefore begun (synced_bytes file before) → BeginsBefore begun (written_bytes file before) → FileLeaves file (spare_in so_far ++ before) left_older
+    → length (written_bytes file before) ≡ length file → BeginsBefore begun (synced_bytes file before) → BeginsBefore begun (written_bytes file before) → FileLeaves file (spare_in so_far ++ before) left_older
     → TellsTrue (last + 1) (synced_bytes file (spare_in so_far ++ before)) (written_bytes file (spare_in so_far ++ before)) left_older
     → ((pages_in so_far ≡ []) × (spare_in so_far ≡ [])) ⊎ ((found l : ℕ) × (cs : List LogRecord) × FindsLog table left_newer left_older found l cs)
-opening-found tears device table newer older newer_file file left_newer left_older begun last changes newer_before before so_far is (settling later no_pages no_spare settles e) size newer_long newer_left well long below_synced below_written older_left tells = inl (no_pages, no_spare)
-opening-found tears device table newer older newer_file file left_newer left_older begun last changes newer_before before so_far is (redoing_it none settles recovers) size newer_long newer_left well long below_synced below_written older_left tells =
+opening-found tears device table newer older newer_file file left_newer left_older begun last changes newer_before before so_far is (settling later no_pages no_spare settles e) size newer_long newer_left long below_synced below_written older_left tells = inl (no_pages, no_spare)
+opening-found tears device table newer older newer_file file left_newer left_older begun last changes newer_before before so_far is (redoing_it none settles recovers) size newer_long newer_left long below_synced below_written older_left tells =
     inr (
       begun,
       last,
@@ -263,18 +263,18 @@ opening-found tears device table newer older newer_file file left_newer left_old
     go : (begins : List FileCall) → begins ≡ [] → TellsTrue (last + 1) (synced_bytes file (begins ++ before)) (written_bytes file (begins ++ before)) left_older → BeginsBefore begun left_older
     go [] e tells = λ lsn payload rest fit at. stood file before long begun below_synced below_written [] (last + 1) left_older nothing tells lsn payload rest fit at
     go (x ∷ begins) e tells = absurd (cc)
-opening-found tears device table newer older newer_file file left_newer left_older begun last changes newer_before before so_far is (beginning_it settles recovers pages_synced by) size newer_long newer_left well long below_synced below_written older_left tells =
+opening-found tears device table newer older newer_file file left_newer left_older begun last changes newer_before before so_far is (beginning_it settles recovers pages_synced by) size newer_long newer_left long below_synced below_written older_left tells =
     inr (
     let settled_now : SettledLeaves (again_of is) left_newer = record { first = newer_file; calls = log_in so_far ++ newer_before; long = size; settled = settled-all (again_of is) (log_in so_far) true settles refl newer_file newer_before newer_long; leaves = newer_left } in
     either-found table left_newer file left_older begun (last + 1) last changes before (spare_in so_far ++ before)
     (newer-has tears device.pages device.size (λ p. []) (λ p. []) (λ p. []) (λ p. []) table newer older left_newer begun last changes is settled_now)
     (begins-before tears device.pages device.size (λ p. []) (λ p. []) (λ p. []) (λ p. []) table newer older left_newer begun last changes is settled_now)
-    long below_synced below_written (each-last (λ calls. Beginning file (last + 1) table before (calls ++ before)) (spare_in so_far) (each-beginning file (last + 1) table before well long (spare_in so_far) by)) older_left tells)
+    long below_synced below_written (each-last (λ calls. Beginning file (last + 1) table before (calls ++ before)) (spare_in so_far) (each-beginning file (last + 1) table before long (spare_in so_far) by)) older_left tells)
 
 none-before : (bytes : List ℕ) → NoFrame bytes → (to : ℕ) → BeginsBefore to bytes
 none-before bytes none to = λ lsn payload rest fit e. absurd (none lsn payload rest fit e)
 
-pub wiped-all : (file : List ℕ) (before : List FileCall) → failed before ≡ false → length (written_bytes file before) ≡ length file
+pub wiped-all : (file : List ℕ) (before : List FileCall) → length (written_bytes file before) ≡ length file
     → (failed (wiped_by (length file) ++ before) ≡ false) × (length (written_bytes file (wiped_by (length file) ++ before)) ≡ length file) × ((to : ℕ) → BeginsBefore to (synced_bytes file (wiped_by (length file) ++ before))) × ((to : ℕ) → BeginsBefore to (written_bytes file (wiped_by (length file) ++ before)))
     × ((to : ℕ) (left : List ℕ) → FileLeaves file (wiped_by (length file) ++ before) left → BeginsBefore to left)
-wiped-all file before well long = (let e = is-emptied file before long well in (e.well, e.long, none-before _ e.durably, none-before _ e.last, λ to left leaves. none-before left (e.left left leaves) to))
+wiped-all file before long = (let e = is-emptied file before long in (e.well, e.long, none-before _ e.durably, none-before _ e.last, λ to left leaves. none-before left (e.left left leaves) to))

@@ -1,13 +1,13 @@
 -- The first change of each page is of all its bytes.
 use Rattle.std.proofs.Common.{◌≡◌, inl, inr, refl, sym, ap, subst, ◌∙◌, ℕ, zero, suc, ◌+◌, ◌<◌, ◌≤◌, nat_le, Bool, true, false, cond, ◌&&◌, ◌||◌, ◌==◌, List, [], ◌∷◌, ◌++◌, length, map, reverse, take, get_or, replicate, append_assoc, arith}
-use Rattle.std.specs.Prelude.{◌⊎◌, slice_index_or, Result, Ok, Err, IfOk, OnErr}
+use Rattle.std.specs.Prelude.{◌⊎◌, slice_index_or, Result, Ok, Err, IfOk, OnErr, OnOk}
 use Rattle.std.specs.Result.{IsErr}
 use Rattle.bp_core.specs.Outcomes.{KnowsPass}
 use Rattle.bp_core.specs.declared.passes.Pass.{Pass}
 use Rattle.bp_device.specs.Owned.{OwnedView}
 use Rattle.std.specs.List.{cons_option}
 use Rattle.std.proofs.lemmas.Bool.{eqb-true, le-leb, or_cases, or_parts, true≢false}
-use Rattle.std.proofs.lemmas.List.{reverse-append, map_push, take_more}
+use Rattle.std.proofs.lemmas.List.{length_push, reverse-append, map_push, take_more}
 use Rattle.std.proofs.Common.{Some, None}
 use Rattle.bp_page.specs.Patched.{patched}
 use Rattle.bp_trail.specs.declared.records.LogRecord.{LogRecord}
@@ -31,7 +31,8 @@ use Rattle.example_log.specs.declared.log.LogFile.{LogFile}
 use Rattle.example_log.specs.Disk.{DeviceCall, Honest}
 use Rattle.example_log.specs.Files.{FileCall}
 use Rattle.example_table.specs.declared.table.TableFault.{TableFault}
-use Rattle.example_table.specs.Images.{AreImaged, AreLogged, AreWhole, FirstsAreFull, IsFull, IsWhole, is_of, whole_of}
+use Rattle.example_table.specs.Images.{AreImaged, AreImagedOnce, AreLogged, AreWhole, FirstsAreFull, IsFull, IsWhole, NotesEach, NotesMore, is_of, whole_of}
+use Rattle.std.specs.Bool.{MatchBool}
 use Rattle.example_table.specs.PoolLives.{PoolLife}
 use Rattle.example_table.specs.Tables.{Cut, contents, writes_of}
 use Rattle.example_table.specs.TableCalls.{HasCommit, IsTable, LeavesCommit, under}
@@ -267,6 +268,36 @@ module _ (size : ℕ) (calls : List DeviceCall) (all log changes made : List Log
           ∙ full-bytes (whole_of r is.bytes) [] size x refl long tt (ap (λ (t : List ℕ). length t) (sym brought) ∙ is.long)
           ∙ ap (patched r.offset r.bytes) brought ∙ sym (ap (patched r.offset r.bytes) changes_x)
 
+-- ---- each page has one image at most
+
+pub whole-full : (size : ℕ) (calls : List DeviceCall) (all : List LogRecord) (r m : LogRecord) → IsWhole size calls all r m → (m.page ≡ r.page) × IsFull size m
+whole-full size calls all r m w = (ap (λ (x : LogRecord). x.page) w.made_is, (ap (λ (x : LogRecord). x.offset) w.made_is, ap (λ (x : LogRecord). length x.bytes) w.made_is ∙ length-put size (r ∷ []) w.bytes (w.fits, tt) w.long))
+
+once-push : (size : ℕ) (known : ℕ → Bool) (changes made : List LogRecord) (r m : LogRecord) → AreImagedOnce size known changes made → m.page ≡ r.page → MatchBool (some (is_of r.page) changes || known r.page) (m ≡ r) (IsFull size m)
+    → AreImagedOnce size known (changes ++ r ∷ []) (made ++ m ∷ [])
+once-push size known [] [] r m h page is = (page, is, tt)
+once-push size known [] (y ∷ made) r m h page is = absurd h
+once-push size known (x ∷ changes) [] r m h page is = absurd h
+once-push size known (x ∷ changes) (y ∷ made) r m h page is =
+    (h.0, h.1, once-push size (λ p. is_of p x || known p) changes made r m h.2 page (subst (λ (b : Bool). MatchBool b (m ≡ r) (IsFull size m)) (turn (is_of r.page x) (some (is_of r.page) changes) (known r.page)) is))
+  where
+    turn : (a b c : Bool) → ((a || b) || c) ≡ (b || (a || c))
+    turn true true c = refl
+    turn true false c = refl
+    turn false true c = refl
+    turn false false c = refl
+
+-- what is known of a page by the changes made so far is so by those that were asked for
+known-as : (size : ℕ) (calls : List DeviceCall) (all log changes made : List LogRecord) → AreWhole size calls all log changes made → (p : ℕ) (flag b : Bool) → (flag || some (is_of p) made) ≡ b → (some (is_of p) changes || flag) ≡ b
+known-as size calls all log changes made w p flag b e =
+    ap (λ (x : Bool). x || flag) (sym (some-reverse (is_of p) changes) ∙ sym (w.pages p) ∙ some-reverse (is_of p) made) ∙ swap (some (is_of p) made) flag ∙ e
+  where
+    swap : (a b : Bool) → (a || b) ≡ (b || a)
+    swap true true = refl
+    swap true false = refl
+    swap false true = refl
+    swap false false = refl
+
 pub all-taken : (i : ℕ) (xs : List LogRecord) → length xs ≤ i → take i xs ≡ xs
 all-taken zero [] le = refl
 all-taken (suc i) [] le = refl
@@ -276,6 +307,24 @@ all-taken (suc i) (x ∷ xs) le = ap (λ (t : List LogRecord). x ∷ t) (all-tak
 module _ (size : ℕ) (all log xs : List LogRecord) (i : ℕ) (r : LogRecord) (made now : List LogRecord) (next : LogRecord) (below : i < length xs) (is : r ≡ get_or xs i r) (pushed : now ≡ made ++ next ∷ []) where
   as-next : (calls : List DeviceCall) → AreWhole size calls all log (take i xs ++ r ∷ []) (made ++ next ∷ []) → AreWhole size calls all log (take (i + 1) xs) now
   as-next calls w = subst (λ (t : List LogRecord). AreWhole size calls all log t now) (sym (take_more xs i r below ∙ ap (λ (x : LogRecord). take i xs ++ x ∷ []) (sym is))) (subst (AreWhole size calls all log (take i xs ++ r ∷ [])) (sym pushed) w)
+
+  next-once : (known : ℕ → Bool) → AreImagedOnce size known (take i xs) made → next.page ≡ r.page → MatchBool (some (is_of r.page) (take i xs) || known r.page) (next ≡ r) (IsFull size next) → AreImagedOnce size known (take (i + 1) xs) now
+  next-once known h page so =
+      subst (λ (t : List LogRecord). AreImagedOnce size known t now) (sym (take_more xs i r below ∙ ap (λ (x : LogRecord). take i xs ++ x ∷ []) (sym is)))
+      (subst (AreImagedOnce size known (take i xs ++ r ∷ [])) (sym pushed) (once-push size known (take i xs) made r next h page so))
+
+  pub next-copied-once : (calls : List DeviceCall) → AreWhole size calls all log (take i xs) made → next ≡ r → (flags : List Bool) → (slice_index_or flags r.page false || some (is_of r.page) made) ≡ true
+      → AreImagedOnce size (λ p. slice_index_or flags p false) (take i xs) made → AreImagedOnce size (λ p. slice_index_or flags p false) (take (i + 1) xs) now
+  next-copied-once calls w copied flags here h =
+      next-once (λ p. slice_index_or flags p false) h (ap (λ (x : LogRecord). x.page) copied)
+      (subst (λ (b : Bool). MatchBool b (next ≡ r) (IsFull size next)) (sym (known-as size calls all log (take i xs) made w r.page (slice_index_or flags r.page false) true here)) copied)
+
+  pub next-imaged-once : (later calls : List DeviceCall) → AreWhole size calls all log (take i xs) made → IsWhole size (later ++ calls) all r next → (flags : List Bool) → (slice_index_or flags r.page false || some (is_of r.page) made) ≡ false
+      → AreImagedOnce size (λ p. slice_index_or flags p false) (take i xs) made → AreImagedOnce size (λ p. slice_index_or flags p false) (take (i + 1) xs) now
+  next-imaged-once later calls w whole flags none h =
+      let full = whole-full size (later ++ calls) all r next whole in
+      next-once (λ p. slice_index_or flags p false) h full.0
+      (subst (λ (b : Bool). MatchBool b (next ≡ r) (IsFull size next)) (sym (known-as size calls all log (take i xs) made w r.page (slice_index_or flags r.page false) false none)) full.1)
 
   pub next-copied : (calls : List DeviceCall) → AreWhole size calls all log (take i xs) made → next ≡ r → (flags : List Bool) → AreImaged flags log → (slice_index_or flags r.page false || some (is_of r.page) made) ≡ true → AreWhole size calls all log (take (i + 1) xs) now
   next-copied calls w copied flags known here = as-next calls (whole-copied size calls all log (take i xs) made w r next copied (by (or_cases (slice_index_or flags r.page false) (some (is_of r.page) made) here)))
@@ -383,6 +432,39 @@ imaged-noted old new lsn made commits known noted p set =
     by : (slice_index_or old p false ≡ true) ⊎ (some (is_of p) made ≡ true) → (some (is_of p) (reverse made) || some (is_of p) (reverse (changes_of commits))) ≡ true
     by (inl was) = ap (λ (b : Bool). some (is_of p) (reverse made) || b) (known p was) ∙ or-true (some (is_of p) (reverse made))
     by (inr now) = ap (λ (b : Bool). b || some (is_of p) (reverse (changes_of commits))) (some-reverse (is_of p) made ∙ now)
+
+-- the flags of the pages of a commit are set, where the table goes on
+pub notes-same : (a b : List Bool) (log more : List LogRecord) → a ≡ b → more ≡ log → NotesEach b log → NotesEach a more
+notes-same a b log more e f h = subst (λ (x : List Bool). NotesEach x more) (sym e) (subst (NotesEach b) (sym f) h)
+
+notes-added : (old new : List Bool) (lsn : ℕ) (made : List LogRecord) (commits : List (List LogRecord)) → NotesMore old made new → NotesEach old (reverse (changes_of commits)) → NotesEach new (reverse (changes_of (commits ++ map (under lsn) made ∷ [])))
+notes-added old new lsn made commits m h = λ p below has. by p below
+    (or_cases (some (is_of p) (reverse made)) (some (is_of p) (reverse (changes_of commits))) (sym (all p) ∙ has))
+  where
+    all : (p : ℕ) → some (is_of p) (reverse (changes_of (commits ++ map (under lsn) made ∷ []))) ≡ (some (is_of p) (reverse made) || some (is_of p) (reverse (changes_of commits)))
+    all p =
+        ap (λ (cs : List LogRecord). some (is_of p) (reverse cs)) (changes_of-push commits (map (under lsn) made))
+        ∙ ap (some (is_of p)) (reverse-append (changes_of commits) (map (under lsn) made))
+        ∙ under-some lsn p made (reverse (changes_of commits))
+        ∙ some-append (is_of p) (reverse made) (reverse (changes_of commits))
+
+    by : (p : ℕ) → p < length new → (some (is_of p) (reverse made) ≡ true) ⊎ (some (is_of p) (reverse (changes_of commits)) ≡ true) → slice_index_or new p false ≡ true
+    by p below (inl now) = m.set p (omega (arith, m.room)) (sym (some-reverse (is_of p) made) ∙ now)
+    by p below (inr was) = m.kept p (h p (omega (arith, m.room)) was)
+
+pub notes-after : (old mid new : List Bool) (lsn : ℕ) (made : List LogRecord) (commits after : List (List LogRecord)) (ended : Bool) (result : Result ℕ TableFault) → mid ≡ old → OnOk result (NotesMore mid made new)
+    → ((after ≡ commits) × (new ≡ mid)) ⊎ (after ≡ commits ++ map (under lsn) made ∷ []) → OnErr result (ended ≡ false → after ≡ commits) → IfOk result (λ got. (got ≡ lsn) × (after ≡ commits ++ map (under got) made ∷ []))
+    → ended ≡ false → NotesEach old (reverse (changes_of commits)) → NotesEach new (reverse (changes_of after))
+notes-after old mid new lsn made commits after ended (Ok got) e m which none ok alive h =
+    subst (λ (cs : List (List LogRecord)). NotesEach new (reverse (changes_of cs))) (sym ok.1)
+    (notes-added mid new got made commits m (notes-same mid old (reverse (changes_of commits)) (reverse (changes_of commits)) e refl h))
+notes-after old mid new lsn made commits after ended (Err why) e m (inl same) none ok alive h =
+    notes-same new old (reverse (changes_of commits)) (reverse (changes_of after)) (same.1 ∙ e) (ap (λ (x : List (List LogRecord)). reverse (changes_of x)) same.0) h
+notes-after old mid new lsn made commits after ended (Err why) e m (inr added) none ok alive h =
+    absurd (longer commits (map (under lsn) made) (sym (none alive) ∙ added))
+  where
+    longer : (cs : List (List LogRecord)) (x : List LogRecord) → cs ≡ cs ++ x ∷ [] → ⊥
+    longer cs x e = (let n = ap (λ (t : List (List LogRecord)). length t) e ∙ length_push cs x in omega (arith, n))
 
 pub imaged-added : (flags : List Bool) (lsn : ℕ) (made : List LogRecord) (commits : List (List LogRecord)) → AreImaged flags (reverse (changes_of commits)) → AreImaged flags (reverse (changes_of (commits ++ map (under lsn) made ∷ [])))
 imaged-added flags lsn made commits known = imaged-noted flags flags lsn made commits known (λ p set. inl set)

@@ -1,11 +1,11 @@
 -- Why a call of a table is refused.
-use Rattle.std.specs.Prelude.{◌≡◌, ◌≢◌, ◌⊎◌, ℕ, ◌+◌, ◌^◌, ◌<◌, ◌≤◌, max, Bool, true, false, List, length, Err}
+use Rattle.std.specs.Prelude.{◌≡◌, ◌≢◌, ◌⊎◌, ℕ, ◌+◌, ◌^◌, ◌<◌, ◌≤◌, max, Bool, true, false, List, length, slice_index_or, Err}
 use Rattle.bp_core.specs.CoreView.{LacksRoomFor}
 use Rattle.bp_device.specs.Drivers.{IsCaused}
 use Rattle.bp_device.specs.Owned.{OwnedView}
 use Rattle.bp_page.specs.declared.refusals.PortFault.{PortFault}
 use Rattle.bp_page.specs.declared.refusals.Refusal.TheVariants.{TrailFull, WriteFailed}
-use Rattle.bp_ports.specs.Files.{StoreSync}
+use Rattle.bp_ports.specs.Files.{StoreSync, Transfer}
 use Rattle.example_log.specs.declared.log.LogFile.{LogFile}
 use Rattle.bp_trail.specs.declared.ends.NotFlushed.{NotFlushed}
 use Rattle.bp_trail.specs.declared.entries.Call.TheVariants as call
@@ -16,7 +16,7 @@ use Rattle.example_log.specs.Frames.{frame}
 use Rattle.example_log.specs.LogFiles.{BeginFault}
 use Rattle.example_log.specs.declared.log.LogFault.{LogFault}
 use Rattle.example_log.specs.declared.log.LogFault.TheVariants.{Device, Ended, Memory, OtherSize}
-use Rattle.example_table.specs.Images.{AreLogged}
+use Rattle.example_table.specs.Images.{AreImagedOnce}
 use Rattle.example_table.specs.declared.table.TableFault.{TableFault}
 use Rattle.example_table.specs.declared.table.TableFault.TheVariants.{Log, Pages}
 
@@ -34,10 +34,11 @@ abbrev pub LacksRoom : {S : Type 0} → LogFile S → List ℕ → Type 0
 LacksRoom log payload =
     (2 ^ 63 ≤ log.next) ⊎ (log.size < log.end + length (frame log.next payload))
 
--- so of each record of these changes, which has each as it was asked for, or its page's image: of one
-abbrev pub IsFullFor : {S : Type 0} → ℕ → LogFile S → List LogRecord → Type 0
-IsFullFor size log changes =
-    (made : List LogRecord) × AreLogged size changes made × LacksRoom log (payload_of made)
+-- so for the record of these changes, with the image of each page whose flag is not set
+abbrev pub IsFullFor : {S : Type 0} → ℕ → List Bool → LogFile S → List LogRecord → Type 0
+IsFullFor size flags log changes =
+    (made : List LogRecord) × AreImagedOnce size (λ p. slice_index_or flags p false) changes made
+    × LacksRoom log (payload_of made)
 
 -- why not all pages were written out and made durable: the flush of one was refused, or the sync failed
 pub data SaveFault {P : Type 0} (page_syncs : Syncs P) (new : OwnedView P) : TableFault → Type 0 where
@@ -48,16 +49,18 @@ pub data SaveFault {P : Type 0} (page_syncs : Syncs P) (new : OwnedView P) : Tab
 
 -- why the log was not begun anew: the table had ended, the files have two sizes, there is no memory, the
 -- commits were not made durable, or the pages, or the log was not begun in the other file
-pub data CheckpointFault {S P : Type 0} (syncs : P → StoreSync S) (page_syncs : Syncs P)
-    (ended : Bool) (old new : OwnedView P) (log spare : LogFile S) (head : List ℕ)
-    : TableFault → Type 0 where
-  had_ended : ended ≡ true → CheckpointFault syncs page_syncs ended old new log spare head (Log Ended)
+pub data CheckpointFault {S P : Type 0} (reads writes : P → Transfer S) (syncs : P → StoreSync S)
+    (page_syncs : Syncs P) (ended : Bool) (old new : OwnedView P) (log spare new_spare : LogFile S)
+    (head : List ℕ) : TableFault → Type 0 where
+  had_ended : ended ≡ true
+      → CheckpointFault reads writes syncs page_syncs ended old new log spare new_spare head (Log Ended)
   sizes : spare.size ≢ log.size
-      → CheckpointFault syncs page_syncs ended old new log spare head (Log OtherSize)
-  no_memory : CheckpointFault syncs page_syncs ended old new log spare head (Log Memory)
+      → CheckpointFault reads writes syncs page_syncs ended old new log spare new_spare head (Log OtherSize)
+  no_memory : CheckpointFault reads writes syncs page_syncs ended old new log spare new_spare head (Log Memory)
   not_durable : {why : TableFault} (mid : LogFile S) → DurableFault syncs old log mid why
-      → CheckpointFault syncs page_syncs ended old new log spare head why
+      → CheckpointFault reads writes syncs page_syncs ended old new log spare new_spare head why
   not_saved : {why : TableFault} → SaveFault page_syncs new why
-      → CheckpointFault syncs page_syncs ended old new log spare head why
-  not_begun : {why : LogFault} → BeginFault spare.size (max log.next 1) head why
-      → CheckpointFault syncs page_syncs ended old new log spare head (Log why)
+      → CheckpointFault reads writes syncs page_syncs ended old new log spare new_spare head why
+  not_begun : {why : LogFault} → BeginFault (reads new.port) (writes new.port) (syncs new.port)
+      spare.size (max log.next 1) head spare.store new_spare.store why
+      → CheckpointFault reads writes syncs page_syncs ended old new log spare new_spare head (Log why)

@@ -7,7 +7,7 @@ use Rattle.bp_trail.specs.declared.records.LogRecord.{LogRecord}
 use Rattle.bp_trail.specs.Lists.{some}
 use Rattle.example_log.specs.declared.log.LogFile.{LogFile}
 use Rattle.example_log.specs.declared.log.LogFault.{LogFault}
-use Rattle.example_log.specs.declared.log.LogFault.TheVariants.{Memory, Device, Full, HasLog, OtherSize, TwoLogs}
+use Rattle.example_log.specs.declared.log.LogFault.TheVariants.{Memory, Full, HasLog, OtherSize, TwoLogs}
 use Rattle.example_table.specs.declared.table.TableFault.{TableFault}
 use Rattle.example_table.specs.declared.table.TableFault.TheVariants.{Log, Pages}
 use Rattle.bp_page.specs.declared.refusals.Refusal.TheVariants.{OutOfPage}
@@ -18,7 +18,7 @@ use Rattle.example_log.specs.Files.{FileCall, FileDid, FileLeaves, failed, synce
 use Rattle.example_log.specs.Frames.{IsRecord, NoFrame, frame}
 use Rattle.example_log.specs.Lives.{LogLife, Reopened, whole}
 use Rattle.example_log.specs.Moments.{AtEach, Made, Step, log_in, pages_in, spare_in}
-use Rattle.example_log.specs.LogFiles.{BeginFault, BeginsBy, IsLogFile, IsUnread, Settles, Wipes, WipesFile}
+use Rattle.example_log.specs.LogFiles.{BeginFault, BeginsBy, IsLogFile, IsUnread, Settles, StopFault, Wipes, WipesFile}
 use Rattle.example_log.specs.Promise.{MayBeRedone, Recovers}
 
 -- ---- which of two files has the log
@@ -87,7 +87,7 @@ pub data Beginning (file : List ℕ) (start : ℕ) (table : List ℕ) (before : 
 abbrev pub BeginsLog : {S : Type 0} → Transfer S → Transfer S → StoreSync S → LogFile S → LogFile S
     → ℕ → List ℕ → Bool → Type 0
 BeginsLog reads writes syncs old new start table good =
-    (file : List ℕ) (before : List FileCall) → failed before ≡ false
+    (file : List ℕ) (before : List FileCall)
     → length (written file before) ≡ length file → old.size ≡ length file
     → (more : List FileCall) × FileDid reads writes syncs old.store more new.store
     × AtEach (λ so_far. Beginning file start table before (so_far ++ before)) more
@@ -134,6 +134,11 @@ pub record IsInOrder {S P : Type 0} (reads writes : P → Transfer S) (syncs : P
       (record { port = new; log = new_newer.store; spare = new_older.store })
   pub each : AtEach (IsOpening device again table changes next old_older.size) steps
 
+-- a call of a log was refused so
+abbrev pub LogRefused : (LogFault → Type 0) → TableFault → Type 0
+LogRefused So (Log why) = So why
+LogRefused So (Pages why) = ⊥
+
 -- What an opening does: it is refused, with nothing done; or it writes the newer log again, and that
 -- is not yet durable; or it stops within the redo; or all is redone, and a log is begun in the other
 -- file, in part or durably.
@@ -149,6 +154,8 @@ pub data MovesLog {S P : Type 0} (reads writes : P → Transfer S) (syncs : P �
       table f.changes (f.last + 1) old old old_newer new_newer old_older old_older)
       → (pages_in o.steps ≡ []) × (spare_in o.steps ≡ [])
       → Settles (again_of f.is_newer) (log_in o.steps) false
+      → LogRefused (StopFault (reads old) (writes old) (syncs old) (λ calls. Settles (again_of f.is_newer)
+      calls false) old_newer.store new_newer.store) why
       → MovesLog reads writes syncs page_reads page_writes page_syncs device table newer older
       old old_newer old_older (Err why) old new_newer old_older
   stopped : {new : P} {new_newer : LogFile S} (f : Found device table newer older) (done : Bool)
@@ -166,7 +173,9 @@ pub data MovesLog {S P : Type 0} (reads writes : P → Transfer S) (syncs : P �
       → Settles (again_of f.is_newer) (log_in o.steps) true
       → Recovers device.pages device.size 0 (reverse f.changes) (pages_in o.steps) true
       → BeginsBy old_older.size (f.last + 1) table (spare_in o.steps)
-      → (is_ok result ≡ true → (file : List ℕ) (before : List FileCall) → failed before ≡ false
+      → IfErr result (LogRefused (BeginFault (reads new) (writes new) (syncs new) old_older.size (f.last + 1)
+      table old_older.store new_older.store))
+      → (is_ok result ≡ true → (file : List ℕ) (before : List FileCall)
       → length (written file before) ≡ length file → old_older.size ≡ length file
       → IsLogFile file (f.last + 1) (spare_in o.steps ++ before) (table ∷ []) 1 new_older)
       → MovesLog reads writes syncs page_reads page_writes page_syncs device table newer older
@@ -194,7 +203,7 @@ pub record IsEmptied (file : List ℕ) (calls : List FileCall) : Type 0 where
 abbrev pub EmptiesFile : {S : Type 0} → Transfer S → Transfer S → StoreSync S → LogFile S → LogFile S
     → Type 0
 EmptiesFile reads writes syncs old new =
-    (file : List ℕ) (before : List FileCall) → failed before ≡ false
+    (file : List ℕ) (before : List FileCall)
     → length (written file before) ≡ length file → old.size ≡ length file
     → (more : List FileCall) × FileDid reads writes syncs old.store more new.store
     × IsEmptied file (more ++ before)
@@ -228,14 +237,15 @@ pub data CreatesLog {S : Type 0} (reads writes : Transfer S) (syncs : StoreSync 
       → reads two.store 0 b true new_two.store → ¬ NoFrame a ⊎ ¬ NoFrame b
       → CreatesLog reads writes syncs head one two (Err HasLog) new_one new_two
   unwiped : {new_one new_two : LogFile S} {why : LogFault} (mid : LogFile S)
-      → AreBlank reads one two new_one mid → (why ≡ Memory) ⊎ (why ≡ Device)
+      → AreBlank reads one two new_one mid
+      → StopFault reads writes syncs (Wipes mid.size) mid.store new_two.store why
       → WipesFile reads writes syncs mid.size mid.store false new_two.store
       → CreatesLog reads writes syncs head one two (Err why) new_one new_two
   begun : {new_one new_two : LogFile S} (mid_one mid_two : LogFile S)
       (result : Result (Unit {0}) LogFault) → AreBlank reads one two mid_one mid_two
       → EmptiesFile reads writes syncs mid_two new_two
       → BeginsLog reads writes syncs mid_one new_one 1 head (is_ok result)
-      → IfErr result (BeginFault one.size 1 head)
+      → IfErr result (BeginFault reads writes syncs one.size 1 head mid_one.store new_one.store)
       → CreatesLog reads writes syncs head one two result new_one new_two
 
 -- both files were read, and the log goes on in that of the older one, which is the second or not

@@ -12,7 +12,7 @@ ghost use Rattle.example_log.specs.Moments.{pages_in};
 ghost use Rattle.example_log.specs.declared.log.LogFault.TheVariants.{Full};
 ghost use Rattle.example_table.specs.declared.table.TableFault.TheVariants.{Log};
 ghost use Rattle.example_log.specs.Files.{FileCall};
-ghost use Rattle.example_table.specs.Images.{AreImaged, AreWhole, IsWhole, is_of, whole_of as whole_is};
+ghost use Rattle.example_table.specs.Images.{AreImaged, AreImagedOnce, AreWhole, IsWhole, NotesMore, is_of, whole_of as whole_is};
 ghost use Rattle.example_table.specs.Marks.{KeepsMarks};
 ghost use Rattle.example_table.specs.Passes.{GivesBack};
 ghost use Rattle.example_table.specs.Tables.{Cut};
@@ -41,8 +41,9 @@ fn touches(changes: &[LogRecord], page: PageNo) -> bool
 
 /// Notes that the log has an image of each page of these changes.
 pub(crate) fn note_images(imaged: &mut Vec<bool>, changes: &[LogRecord])
-    ensures { (p : ℕ) → slice_index_or imaged.new.items p false ≡ true →
+    ensures known { (p : ℕ) → slice_index_or imaged.new.items p false ≡ true →
         (slice_index_or imaged.old.items p false ≡ true) ⊎ (some (is_of p) changes.now ≡ true) }
+    ensures noted { NotesMore imaged.old.items changes.now imaged.new.items }
 {
     for change in changes {
         let place = change.page.number() as usize;
@@ -168,7 +169,9 @@ impl<S: LogStore<P>, P: Port> Table<S, P> {
             (λ after n left. (after ≡ commits) × (left ≡ [])))
             × IfOk result (λ made. AreWhole self.old.pool.core.parameters.size
             (pages_in g.steps ++ calls) (reverse (changes_of (cut.commits ++ commits)))
-            (reverse (changes_of commits)) changes.now made.items) }
+            (reverse (changes_of commits)) changes.now made.items
+            × AreImagedOnce self.old.pool.core.parameters.size
+            (λ p. slice_index_or self.old.imaged.items p false) changes.now made.items) }
         ensures kept { KeepsMarks self.old self.new }
         ensures passes { GivesBack self.old.pool self.new.pool }
         ensures place { SamePlace self.old.log self.new.log }

@@ -92,7 +92,10 @@ pub fn a_call_may_be_stopped()
 /// Once its pages are synced, whatever of the next log is begun, that is what all commits make of the first images, also
 /// where an opening comes, and ends, while it makes what it read durable (`moving`). A log is found at each moment
 /// (`found`). When the next log has been begun, and also when a second checkpoint comes, the file of the log before it has
-/// none that begins as late, whatever a crash leaves of it (`follows`); nor has it any once it is wiped (`wiped`). It does nothing: its contract is the law.
+/// none that begins as late, whatever a crash leaves of it (`follows`); nor at any moment while it is wiped (`wiping`), nor
+/// has it any once it is (`wiped`). There `to` is the LSN at which the log that goes on begins, and `before` are the calls
+/// of which `follows` tells, or after an opening `settled` of law `an_opening_may_be_stopped`: so what a wipe leaves of
+/// the file is an `other` of the laws above, which tell of the log that goes on. It does nothing: its contract is the law.
 pub fn a_checkpoint_may_be_stopped()
     ensures moving { (c : Parameters) (tears : Bool) (first left : ℕ → List ℕ)
         (table file other_file bytes other : List ℕ) (cut : Cut) (start : ℕ) (alive : Bool)
@@ -159,8 +162,13 @@ pub fn a_checkpoint_may_be_stopped()
         × BeginsBefore to (synced_bytes file later) × BeginsBefore to (written_bytes file later)
         × ((left : List ℕ) → FileLeaves file later left → TellsTrue start (synced_bytes file later)
         (written_bytes file later) left → BeginsBefore to left) }
-    ensures wiped { (file : List ℕ) (before : List FileCall) → failed before ≡ false →
+    ensures wiping { (file left : List ℕ) (start to : ℕ) (before more : List FileCall) →
         length (written_bytes file before) ≡ length file →
+        BeginsBefore to (synced_bytes file before) → BeginsBefore to (written_bytes file before) →
+        Wipes (length file) more → TellsTrue start (synced_bytes file (more ++ before))
+        (written_bytes file (more ++ before)) left →
+        BeginsBefore to left }
+    ensures wiped { (file : List ℕ) (before : List FileCall) → length (written_bytes file before) ≡ length file →
         (failed (wiped_by (length file) ++ before) ≡ false)
         × (length (written_bytes file (wiped_by (length file) ++ before)) ≡ length file)
         × ((to : ℕ) → BeginsBefore to (synced_bytes file (wiped_by (length file) ++ before)))
@@ -174,8 +182,8 @@ pub fn a_checkpoint_may_be_stopped()
 /// Stop an opening at any moment, by a loss of power or by the end of its process alone. What is found in both files
 /// then makes of the pages what they were to be, as often as it is stopped. Reads brought `seen` of the pages when it
 /// began, which a loss of power might have left too, and `first` is what it would have left. The newer log was written
-/// again before any page was. The other file may be as an opening left it that ended while it wiped it: it need not be
-/// durable, as long as no log that begins as late is in it, durably or not (`wiping`). `steps` are the opening's calls of
+/// again before any page was. The other file may be as an opening left it that ended, or failed, while it wiped it: it need
+/// not be durable, as long as no log that begins as late is in it, durably or not (`wiping`). `steps` are the opening's calls of
 /// the device and of both files, in the order in which they were made: at each moment of them that holds, or no page and
 /// nothing of the other file is written yet, which law `a_crash_is_mended` tells of (`within`).
 ///
@@ -199,7 +207,7 @@ pub fn an_opening_may_be_stopped()
         length newer_file ≡ length (again_of is) →
         length (written_bytes newer_file newer_before) ≡ length (again_of is) →
         FileLeaves newer_file (log_in so_far ++ newer_before) left_newer →
-        failed before ≡ false → length (written_bytes file before) ≡ length file →
+        length (written_bytes file before) ≡ length file →
         BeginsBefore begun (synced_bytes file before) →
         BeginsBefore begun (written_bytes file before) →
         FileLeaves file (spare_in so_far ++ before) left_older →
@@ -216,7 +224,7 @@ pub fn an_opening_may_be_stopped()
         steps ≡ later ++ so_far → length newer_file ≡ length (again_of is) →
         length (written_bytes newer_file newer_before) ≡ length (again_of is) →
         FileLeaves newer_file (log_in so_far ++ newer_before) left_newer →
-        failed before ≡ false → length (written_bytes file before) ≡ length file →
+        length (written_bytes file before) ≡ length file →
         BeginsBefore begun (synced_bytes file before) →
         BeginsBefore begun (written_bytes file before) →
         FileLeaves file (spare_in so_far ++ before) left_older →

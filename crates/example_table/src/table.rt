@@ -11,7 +11,7 @@ ghost use Rattle.bp_trail.specs.Trail.{Trail};
 ghost use Rattle.example_log.specs.Commits.{AreChanges, changes_of, payload_of};
 ghost use Rattle.example_log.specs.Disk.{DeviceCall};
 ghost use Rattle.example_log.specs.Moments.{pages_in};
-ghost use Rattle.example_log.specs.Files.{FileCall, failed, written};
+ghost use Rattle.example_log.specs.Files.{FileCall, written};
 ghost use Rattle.example_table.specs.Checkpoints.{Checkpoints, HasSaved};
 ghost use Rattle.example_log.specs.Heads.{head_of as head_is};
 ghost use Rattle.example_log.specs.LogFiles.{IsLogFile, SamePlace};
@@ -19,7 +19,7 @@ ghost use Rattle.example_table.specs.Marks.{KeepsMarks};
 ghost use Rattle.example_table.specs.Passes.{AddsPass, GivesBack, KeepsPasses};
 ghost use Rattle.bp_trail.specs.Passes.{passes_out};
 ghost use Rattle.example_table.specs.Tables.{Cut, no_cut};
-ghost use Rattle.example_table.specs.Images.{AreImaged, FirstsAreFull, is_of};
+ghost use Rattle.example_table.specs.Images.{AreImaged, FirstsAreFull, NotesEach, NotesMore, is_of};
 ghost use Rattle.bp_trail.specs.Lists.{some};
 ghost use Rattle.example_table.specs.Opening.{AreWithin};
 ghost use Rattle.example_table.specs.TableCalls.{IsTable, LeavesCommit, TableDoes, TableGoes, under};
@@ -139,7 +139,8 @@ impl<S: LogStore<P>, P: Port> Table<S, P> {
               2 ^ 60;
         })) }
         ensures log { IfOk result (λ made. made.log ≡ log) }
-        ensures imaged { IfOk result (λ made. AreImaged made.imaged.items []) }
+        ensures imaged { IfOk result (λ made. AreImaged made.imaged.items []
+            × (length made.imaged.items ≡ (P.geometry_of port).pages)) }
         ensures passes { IfOk result (λ made. passes_out made.pool.core.past ≡ []) }
     {
         let pool = OwnedPool::over(alloc, port, settings, frames, ROOM)?;
@@ -274,6 +275,9 @@ impl<S: LogStore<P>, P: Port> Table<S, P> {
         ensures noted { (p : ℕ) → slice_index_or self.new.imaged.items p false ≡ true →
             (slice_index_or self.old.imaged.items p false ≡ true)
             ⊎ (some (is_of p) changes.now ≡ true) }
+        ensures added { OnOk result
+            (NotesMore self.old.imaged.items changes.now self.new.imaged.items) }
+        ensures flags { length self.new.imaged.items ≡ length self.old.imaged.items }
         ensures passes { GivesBack self.old.pool self.new.pool }
         ensures full { IfErr result (λ why. why ≡ Log Full →
             LacksRoom self.old.log (payload_of changes.now)) }
@@ -309,9 +313,9 @@ impl<S: LogStore<P>, P: Port> Table<S, P> {
     /// fixed for that first. A crash leaves all changes of the commit or none, and all once `make_durable` has passed.
     ///
     /// `Ended`, where the table or its log has ended, and `OutOfPage` change nothing. If the table has not ended after a
-    /// refusal, nothing was committed and it goes on: `Full` where the log has no room for the changes and the pages, or
-    /// the LSN would be 2^63, `Memory`, and as the fix of a page is refused. A commit of more pages than the log has room
-    /// for is always `Full`. If it has ended, it is to be opened again, and the commit may be found then.
+    /// refusal, nothing was committed and it goes on: `Full` where the log has no room for the changes and for the pages of
+    /// which it has no image, or the LSN would be 2^63, `Memory`, and as a fix is refused. A commit of more pages than the
+    /// log has room for is always `Full`. If it has ended, it is to be opened again, and the commit may be found then.
     pub fn commit<R: Wait>(
         &mut self,
         rt: &R,
@@ -336,7 +340,10 @@ impl<S: LogStore<P>, P: Port> Table<S, P> {
             self.old.pool self.new.pool self.old.log self.new.log table cut file start calls
             log_calls commits records
             (λ after n left. (self.new.is_ended ≡ false → left ≡ [])
-            × AreImaged self.new.imaged.items (reverse (changes_of after))))
+            × AreImaged self.new.imaged.items (reverse (changes_of after))
+            × (self.new.is_ended ≡ false →
+            NotesEach self.old.imaged.items (reverse (changes_of commits)) →
+            NotesEach self.new.imaged.items (reverse (changes_of after)))))
             × LeavesCommit self.old.pool.core.parameters.size cut calls commits
             (start + 1 + length commits) changes.now self.new.is_ended result
             (pages_in g.steps) g.commits }
@@ -346,8 +353,9 @@ impl<S: LogStore<P>, P: Port> Table<S, P> {
             (commits : List (List Record)) →
             IsTable table cut file start synced calls log_calls commits records [] self.old.pool
             self.old.log → AreImaged self.old.imaged.items (reverse (changes_of commits)) →
-            IfErr result (λ why. why ≡ Log Full →
-            IsFullFor self.old.pool.core.parameters.size self.old.log changes.now) }
+            IfErr result (λ why. why ≡ Log Full → IsFullFor self.old.pool.core.parameters.size
+            self.old.imaged.items self.old.log changes.now) }
+        ensures flags { length self.new.imaged.items ≡ length self.old.imaged.items }
     {
         if self.is_ended || self.log.is_ended {
             return Err(TableFault::Log(LogFault::Ended));
@@ -397,7 +405,7 @@ impl<S: LogStore<P>, P: Port> Table<S, P> {
     /// of them durable, and each page. A crash leaves all durable commits, whenever it comes. `table` is the name by which
     /// the table was opened. `spare` is the file that has not the log: after Ok it is the one that had it, for the next
     /// checkpoint. Best wipe it then (`LogFile::wipe`): while it has a log, one lost byte in the head of the one that
-    /// goes on takes `open` back to it, and without a word.
+    /// goes on takes `open` back to it, and without a word. A file of which a write or a sync failed will do: it is wiped.
     ///
     /// `Ended`, `OtherSize` where the files of the log have two sizes, and `Memory` before that, change nothing. `Device`
     /// where a file of the log fails, `WriteFailed` where the device does, `Full` where no LSN is left or the file has no
@@ -415,21 +423,21 @@ impl<S: LogStore<P>, P: Port> Table<S, P> {
             (commits : List (List Record)) →
             IsTable (head_is self.old.log.size (P.geometry_of self.old.pool.port) table.now) cut file
             start synced calls log_calls commits records [] self.old.pool self.old.log →
-            failed before ≡ false → length (written other before) ≡ length other →
-            spare.old.size ≡ length other → Checkpoints S.reads S.writes S.syncs P.read_gives
+            length (written other before) ≡ length other → spare.old.size ≡ length other → Checkpoints S.reads S.writes S.syncs P.read_gives
             P.write_gives P.sync_gives self.old.pool self.new.pool self.old.log self.new.log spare.old
             spare.new (head_is self.old.log.size (P.geometry_of self.old.pool.port) table.now) cut file
             start calls log_calls commits records other before result }
         ensures refused { OnErr result ((self.new.is_ended ≡ true) ⊎ (spare.new ≡ spare.old)) }
         ensures alive { OnOk result
             ((self.new.is_ended ≡ false) × (self.new.log.is_ended ≡ false)) }
-        ensures imaged { OnOk result (AreImaged self.new.imaged.items []) }
+        ensures imaged { OnOk result (AreImaged self.new.imaged.items []
+            × (length self.new.imaged.items ≡ length self.old.imaged.items)) }
         ensures kept { OnErr result (self.new.imaged.items ≡ self.old.imaged.items) }
         ensures sizes { spare.old.size ≢ self.old.log.size → self.old.is_ended ≡ false →
             (result ≡ Err (Log OtherSize)) × (self.new ≡ self.old) × (spare.new ≡ spare.old) }
         ensures passes { KeepsPasses self.old.pool self.new.pool }
-        ensures fault { IfErr result (CheckpointFault S.syncs P.sync_gives self.old.is_ended
-            self.old.pool self.new.pool self.old.log spare.old
+        ensures fault { IfErr result (CheckpointFault S.reads S.writes S.syncs P.sync_gives
+            self.old.is_ended self.old.pool self.new.pool self.old.log spare.old spare.new
             (head_is self.old.log.size (P.geometry_of self.old.pool.port) table.now)) }
     {
         if self.is_ended {

@@ -2,6 +2,7 @@ use Rattle.std.proofs.Common.{inr, refl, [], ◌+◌, length, arith}
 use Rattle.example_log.proofs.Moments.{at-moment}
 use Rattle.example_table.specs.Checkpoints.{IsMoving}
 use Rattle.example_table.proofs.Stopping.{moving-found, moving-mended, wiped-all}
+use Rattle.example_table.proofs.Openings.{stood}
 use Rattle.example_table.proofs.Checkpoints.{may-be-opened, old-good, old-left, old-long, old-synced, old-written}
 use Rattle.example_table.proofs.Sounding.{all-shut, all-sound}
 use Rattle.example_table.proofs.laws.a_checkpoint_may_be_stopped.Goals as goal
@@ -21,6 +22,10 @@ pub returns-clause-found : goal.returns-clause-found
 returns-clause-found g = λ c table file other_file bytes other cut start records calls log_calls before commits steps later so_far each e leaves tells long below_synced below_written other_left other_tells.
     moving-found c table file other_file bytes other cut start calls log_calls before commits records so_far
     (at-moment (IsMoving c table cut file start calls log_calls commits records other_file before) steps later so_far each e) leaves tells long below_synced below_written other_left other_tells
+
+pub returns-clause-wiping : goal.returns-clause-wiping
+returns-clause-wiping g = λ file left start to before more long below_synced below_written wipes tells lsn payload rest fit e.
+    stood file before long to below_synced below_written more start left wipes tells lsn payload rest fit e
 
 pub returns-clause-wiped : goal.returns-clause-wiped
 returns-clause-wiped g = wiped-all

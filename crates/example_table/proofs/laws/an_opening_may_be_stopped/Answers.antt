@@ -9,14 +9,14 @@ pub returns-clause-seen : goal.returns-clause-seen
 returns-clause-seen c = brings-leave
 
 pub returns-clause-within : goal.returns-clause-within
-returns-clause-within c = λ tears device wanted seen first left table newer older newer_file file left_newer left_older begun last changes newer_before before steps later so_far is each e within m k honest leaves size newer_long newer_left well long below_synced below_written older_left tells.
+returns-clause-within c = λ tears device wanted seen first left table newer older newer_file file left_newer left_older begun last changes newer_before before steps later so_far is each e within m k honest leaves size newer_long newer_left long below_synced below_written older_left tells.
     opening-mended tears device wanted seen first left table newer older newer_file file left_newer left_older begun last changes newer_before before so_far is
-    (at-moment (IsOpening device (again_of is) table changes (last + 1) (length file)) steps later so_far each e) within m k honest leaves size newer_long newer_left well long below_synced below_written older_left tells
+    (at-moment (IsOpening device (again_of is) table changes (last + 1) (length file)) steps later so_far each e) within m k honest leaves size newer_long newer_left long below_synced below_written older_left tells
 
 pub returns-clause-found : goal.returns-clause-found
-returns-clause-found c = λ tears device table newer older newer_file file left_newer left_older begun last changes newer_before before steps later so_far is each e size newer_long newer_left well long below_synced below_written older_left tells.
+returns-clause-found c = λ tears device table newer older newer_file file left_newer left_older begun last changes newer_before before steps later so_far is each e size newer_long newer_left long below_synced below_written older_left tells.
     opening-found tears device table newer older newer_file file left_newer left_older begun last changes newer_before before so_far is
-    (at-moment (IsOpening device (again_of is) table changes (last + 1) (length file)) steps later so_far each e) size newer_long newer_left well long below_synced below_written older_left tells
+    (at-moment (IsOpening device (again_of is) table changes (last + 1) (length file)) steps later so_far each e) size newer_long newer_left long below_synced below_written older_left tells
 
 pub returns-clause-redoing : goal.returns-clause-redoing
 returns-clause-redoing c = λ tears pages size wanted seen first left table newer older left_newer left_older begun last changes done calls later so_far is settled below m k honest recovers e leaves.

@@ -62,5 +62,5 @@ returns g c =
     (emptied (g.S.LogStore.reads c.args.port.now) (g.S.LogStore.writes c.args.port.now) (g.S.LogStore.syncs c.args.port.now) c.read_all-2.new.self c.wipe.new.self c.in_ok-wipe.ensures.wiped)
     (subst (λ t. BeginsLog (g.S.LogStore.reads c.args.port.now) (g.S.LogStore.writes c.args.port.now) (g.S.LogStore.syncs c.args.port.now) c.read_all.new.self c.begin.new.self 1 t (is_ok c.begin.result)) (c.deref-3.ensures.value ∙ c.in_ok-head.ensures ∙ ap (λ d. head_of c.args.one.now.size d c.args.table.now) c.geometry.ensures)
     (begins-log (g.S.LogStore.reads c.args.port.now) (g.S.LogStore.writes c.args.port.now) (g.S.LogStore.syncs c.args.port.now) c.read_all.new.self c.begin.new.self 1 c.deref-3.result.now (is_ok c.begin.result) c.begin.ensures.begins))
-    (subst (λ n. IfErr c.begin.result (BeginFault n 1 (head_of c.args.one.now.size (g.P.Port.geometry_of c.args.port.now) c.args.table.now))) c.in_ok-a.ensures.same.0
-    (subst (λ t. IfErr c.begin.result (BeginFault c.read_all.new.self.size 1 t)) (c.deref-3.ensures.value ∙ c.in_ok-head.ensures ∙ ap (λ d. head_of c.args.one.now.size d c.args.table.now) c.geometry.ensures) c.begin.ensures.fault))
+    (subst (λ n. IfErr c.begin.result (BeginFault (g.S.LogStore.reads c.args.port.now) (g.S.LogStore.writes c.args.port.now) (g.S.LogStore.syncs c.args.port.now) n 1 (head_of c.args.one.now.size (g.P.Port.geometry_of c.args.port.now) c.args.table.now) c.read_all.new.self.store c.begin.new.self.store)) c.in_ok-a.ensures.same.0
+    (subst (λ t. IfErr c.begin.result (BeginFault (g.S.LogStore.reads c.args.port.now) (g.S.LogStore.writes c.args.port.now) (g.S.LogStore.syncs c.args.port.now) c.read_all.new.self.size 1 t c.read_all.new.self.store c.begin.new.self.store)) (c.deref-3.ensures.value ∙ c.in_ok-head.ensures ∙ ap (λ d. head_of c.args.one.now.size d c.args.table.now) c.geometry.ensures) c.begin.ensures.fault))

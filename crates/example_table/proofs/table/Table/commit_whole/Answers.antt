@@ -1,11 +1,12 @@
 use Rattle.example_log.specs.Moments.{log_in, pages_in}
-use Rattle.std.proofs.Common.{◌≡◌, not, ◌+◌, ◌++◌, ◌∷◌, [], ℕ, List, length, map, reverse, drop, false, inl, inr, refl, sym, ap, subst, ◌∙◌, arith}
+use Rattle.std.proofs.Common.{◌≡◌, Bool, not, ◌+◌, ◌++◌, ◌∷◌, [], ℕ, List, length, map, reverse, drop, false, inl, inr, refl, sym, ap, subst, ◌∙◌, arith}
 use Rattle.std.specs.Prelude.{◌⊎◌, true, slice_index_or}
 use Rattle.std.proofs.lemmas.Bool.{true≢false}
 use Rattle.std.proofs.lemmas.List.{length-map, drop_all}
 use Rattle.bp_trail.specs.declared.records.LogRecord.{LogRecord}
 use Rattle.example_log.specs.Commits.{AreChanges, changes_of, log_of, payload_of}
 use Rattle.example_log.proofs.LogFiles.{err-if, weaken, same-or-ended}
+use Rattle.example_table.specs.Images.{NotesMore}
 use Rattle.example_table.specs.TableCalls.{TableGoes, under}
 use Rattle.example_table.proofs.Tabling.{table-stays, table-then, table-weaken, log-appends, log-refuses, pending-next}
 use Rattle.example_table.proofs.Faults.{full-of}
@@ -49,7 +50,7 @@ returns-in-Err-clause-goes g c = λ table cut file start records synced calls lo
 pub loop-change-init : goal.loop-change-init
 loop-change-init g c = (
   c.in-Ok.ensures.alive,
-  c.note_images.ensures,
+  c.note_images.ensures.known,
   λ table cut file start records synced calls log_calls commits is running firsts.
       (let life = c.in-Ok.ensures.life file start records log_calls (log_of table commits) is.file_is in
       let told = c.in_ok-payload.ensures.told c.in-Ok.lsn in
@@ -60,6 +61,7 @@ loop-change-init g c = (
             (weaken (g.S.LogStore.reads c.port-2.result.now) (g.S.LogStore.writes c.port-2.result.now) (g.S.LogStore.syncs c.port-2.result.now) c.args.self.now.log c.append.new.self file start log_calls _ _ (λ x n p. (p.0, p.1.1 ∙ ap (λ (t : List ℕ). log_of table commits ++ t ∷ []) (c.deref.ensures.value ∙ told.0))) life) (refl, refl),
       )),
   λ e. e,
+  c.note_images.ensures.noted,
 )
 
 pub returns-in-Err-put-clause-goes : goal.returns-in-Err-put-clause-goes
@@ -91,6 +93,7 @@ loop-change-preserved g c = (
             (table-weaken g.S.LogStore.reads g.S.LogStore.writes g.S.LogStore.syncs g.P.Port.read_gives g.P.Port.write_gives g.P.Port.sync_gives table cut file start _ _ _ _ ((pages_in t.steps) ++ calls) ((log_in t.steps) ++ log_calls) _ _ (λ cs n left q. (q.0 ∙ t.is_so.0, q.2)) p),
       )),
   λ e. c.in-Ok-put.ensures.passes (c.loop-change.invariant.3 e),
+  subst (NotesMore c.args.self.now.imaged.items c.args.changes.now) (sym c.in-Ok-put.ensures.kept) c.loop-change.invariant.4,
 )
 
 pub returns-clause-goes : goal.returns-clause-goes
@@ -102,6 +105,15 @@ returns-clause-goes g c = λ table cut file start records synced calls log_calls
 
 pub returns-in-Err-put-clause-passes : goal.returns-in-Err-put-clause-passes
 returns-in-Err-put-clause-passes g c = λ e. c.put.ensures.passes (c.loop-change.invariant.3 e)
+
+pub returns-in-Err-put-clause-flags : goal.returns-in-Err-put-clause-flags
+returns-in-Err-put-clause-flags g c = ap (λ (fs : List Bool). length fs) c.put.ensures.kept ∙ c.loop-change.invariant.4.room
+
+pub returns-clause-flags : goal.returns-clause-flags
+returns-clause-flags g c = c.loop-change.invariant.4.room
+
+pub returns-clause-added : goal.returns-clause-added
+returns-clause-added g c = c.loop-change.invariant.4
 
 pub returns-clause-passes : goal.returns-clause-passes
 returns-clause-passes g c = c.loop-change.invariant.3

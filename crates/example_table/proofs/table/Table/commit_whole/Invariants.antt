@@ -6,7 +6,7 @@ use Rattle.bp_trail.specs.Trail.{Trail}
 use Rattle.example_log.specs.Commits.{changes_of}
 use Rattle.example_log.specs.Disk.{DeviceCall}
 use Rattle.example_log.specs.Files.{FileCall}
-use Rattle.example_table.specs.Images.{FirstsAreFull, is_of}
+use Rattle.example_table.specs.Images.{FirstsAreFull, NotesMore, is_of}
 use Rattle.example_table.specs.Passes.{GivesBack}
 use Rattle.example_table.specs.Tables.{Cut}
 use Rattle.example_table.specs.TableCalls.{IsTable, TableGoes, under}
@@ -22,3 +22,4 @@ invariant-loop-change g l =
     × TableGoes g.S.LogStore.reads g.S.LogStore.writes g.S.LogStore.syncs g.P.Port.read_gives g.P.Port.write_gives g.P.Port.sync_gives l.fn.self.pool l.self.pool l.fn.self.log l.self.log table cut file start calls log_calls commits records
     (λ after n left. (after ≡ commits ++ map (under l.lsn) l.changes ∷ []) × (left ≡ reverse (map (under l.lsn) (drop l.change-index l.changes)))))
     × GivesBack l.fn.self.pool l.self.pool
+    × NotesMore l.fn.self.imaged.items l.changes l.self.imaged.items
