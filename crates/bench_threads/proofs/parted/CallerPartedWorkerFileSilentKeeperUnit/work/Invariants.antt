@@ -1,6 +1,6 @@
 -- The sessions are that client's still.
 use Rattle.std.proofs.Common.{◌≡◌}
-use Rattle.bench_threads.proofs.parted.CallerPartedWorkerFileSilentKeeper.work.Given as goal
+use Rattle.bench_threads.proofs.parted.CallerPartedWorkerFileSilentKeeperUnit.work.Given as goal
 
 abbrev pub invariant-first_parts : goal.invariant-first_parts
 invariant-first_parts g l = l.own.session.client ≡ l.initial.own.session.client
