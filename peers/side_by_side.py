@@ -5,7 +5,7 @@
     (cd crates/bench && rt run)            builds the bench, and makes its long runs of seconds
     (cd crates/bench_threads && rt run)    builds that of threads
     peers/side_by_side.py ROUNDS [ROOM ..]
-    peers/side_by_side.py threads ROUNDS
+    peers/side_by_side.py threads ROUNDS [KIND ..]
 
 For each ROOM the trail has that room and is cut when half full; ROOM 0 is a trail that is never cut, and ROOM
 `silent` one that is only counted. Each number is in fixes and unfixes a second of processor time. A ratio is of one
@@ -16,12 +16,12 @@ K is 2, and the correlated period is an eighth of the frames in fixes; it is tol
 fixes. Where pages are evicted a second row has no period, beside the same figures of Berkeley DB. Each pool is in its
 steady state: eight fixes for each frame come before those that count.
 
-With `threads` it measures 1, 2 and 4 threads over one pool, whose trail is only counted, and then cut as they go, and
-over a pool of 1, 4 and 16 parts, whose trails are only counted, with as many frames in all. Each number is in uses a
-second of the wall clock, of all threads. The peer is peers/c/bench.c with DB_THREAD, whose numbers are drawn in the
-same way. It ends where one use in a hundred is refused here, or where the peer hits more or fewer of them than this
-pool can: all, or where pages are evicted a quarter. Last come the looks that empty locks would give over the same lines
-of memory, by peers/c/locks.c.
+With `threads` it measures 1, 2 and 4 threads over one pool, whose trail is only counted (KIND `silent`), and then cut as
+they go (`recorded`), and over a pool of 1, 4 and 16 parts (or KIND, a number), whose trails are only counted, with as
+many frames in all. Each number is in uses a second of the wall clock, of all threads. The peer is peers/c/bench.c with
+DB_THREAD, whose numbers are drawn in the same way. It ends where one use in a hundred is refused here, or where the
+peer hits more or fewer of them than this pool can: all, or where pages are evicted a quarter. Last come the looks that
+empty locks would give over the same lines of memory, by peers/c/locks.c.
 """
 import os
 import re
@@ -48,7 +48,7 @@ PEER = [
 # The rows of bench_threads for each number of threads: a name, the period in ticks, and what peers/c/bench.c does
 # with how many frames.
 THREADS = (1, 2, 4)
-PARTS = (1, 4, 16)
+KINDS = ("silent", "recorded", "1", "4", "16")
 USES = [
     ("fix and unfix, 64 hot pages", 32, "nothing", 64),
     ("look, 64 hot pages", 32, "look", 64),
@@ -88,7 +88,7 @@ def pages_of(use):
 
 
 def ours_in_threads(pages, kind, folder):
-    told = said([BENCH_THREADS, pages, *kind], folder)
+    told = said([BENCH_THREADS, pages, *([kind] if kind != "recorded" else [])], folder)
     row = r"(\d+) threads, (\d+) pages, period (\d+): (\d+) a second; (\d+) of (\d+) were not refused"
     found = [tuple(map(int, numbers)) for numbers in re.findall(row, told)]
     if [it[:3] for it in found] != [(n, pages_of(use), use[1]) for n in THREADS for use in USES]:
@@ -116,7 +116,7 @@ def empty_locks(locks, parts, folder):
     rates = []
     for threads in THREADS:
         for _, _, use, frames in USES:
-            words = [locks, str(frames), str(parts), "2", "1", str(threads)]
+            words = [locks, str(frames), parts, "2", "1", str(threads)]
             rates.append(int(said(words, folder)) if use == "look" else None)
     return rates
 
@@ -147,21 +147,28 @@ def print_table(title, runs, peer):
         print(f"| {name} | 2 | {period:,} | {thousands(mine)} | {thousands(other)} | {spread(ratios)} |")
 
 
-def in_threads(rounds, pages, folder):
+def title_of(kind):
+    titles = {"silent": "only counted", "recorded": "cut as they go"}
+    return titles.get(kind) or f"in {parts_of(kind)}, only counted"
+
+
+def parts_of(kind):
+    return f"{kind} part{'s' * (kind != '1')}"
+
+
+def in_threads(rounds, kinds, pages, folder):
     bench, locks = f"{folder}/bench", f"{folder}/locks"
     subprocess.run(["cc", "-std=gnu11", "-O3", "-DBERKELEY", f"{TOP}/peers/c/bench.c", "-ldb", "-lpthread", "-o", bench],
                    check=True)
     subprocess.run(["cc", "-std=gnu11", "-O3", f"{TOP}/peers/c/locks.c", "-lpthread", "-o", locks], check=True)
-    kinds = {"only counted": ["silent"], "cut as they go": []}
-    kinds.update({f"in {n} part{'s' * (n > 1)}, only counted": [str(n)] for n in PARTS})
-    empty = {f"empty locks in {n} part{'s' * (n > 1)}": n for n in PARTS}
-    peer, runs = [], {title: [] for title in (*kinds, *empty)}
+    empty = {kind: f"empty locks in {parts_of(kind)}" for kind in kinds if kind.isdigit()}
+    peer, runs = [], {title: [] for title in (*map(title_of, kinds), *empty.values())}
     for _ in range(rounds):
         peer.append(theirs_in_threads(bench, folder))
-        for title, kind in kinds.items():
-            runs[title].append(ours_in_threads(pages, kind, folder))
-        for title, parts in empty.items():
-            runs[title].append(empty_locks(locks, parts, folder))
+        for kind in kinds:
+            runs[title_of(kind)].append(ours_in_threads(pages, kind, folder))
+        for kind, title in empty.items():
+            runs[title].append(empty_locks(locks, kind, folder))
     for title, ran in runs.items():
         print_threads(title, ran, peer)
 
@@ -184,14 +191,15 @@ def print_threads(title, runs, peer):
 def main():
     threads = sys.argv[1:2] == ["threads"]
     rounds = int(sys.argv[1 + threads])
-    rooms = [it if it == "silent" else int(it) for it in sys.argv[2:]] or [0]
+    words = sys.argv[2 + threads:]
     with tempfile.TemporaryDirectory(prefix="side-by-side-") as folder:
         mpool, pages = f"{folder}/mpool", f"{folder}/pages.bin"
         subprocess.run(["cc", "-O2", f"{TOP}/peers/mpool.c", "-ldb", "-o", mpool], check=True)
         with open(pages, "wb") as it:
             it.write(bytes(FILE_BYTES))
         if threads:
-            return in_threads(rounds, pages, folder)
+            return in_threads(rounds, words or KINDS, pages, folder)
+        rooms = [it if it == "silent" else int(it) for it in words] or [0]
         runs = {room: [] for room in rooms}
         peer = []
         for _ in range(rounds):
