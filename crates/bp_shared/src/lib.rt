@@ -9,7 +9,7 @@
 //! the session's list: all of it, each unfix in its place. So they are when a session ends at a [`ClosedPool`].
 //!
 //! What a hit calls is marked to stand in line: a call of it hands the pass and the answer on through memory, and took a
-//! seventh of a hit's instructions.
+//! ninth of the instructions of a hit that is read.
 #![tactic(auto)]
 
 pub mod closed_part;
