@@ -424,6 +424,7 @@ impl<N: PartNames, K: ListKeeper> SharedPool<N, K> {
     }
 
     /// Lets go of the lock. Where an event found its page in flight, some device work has ended at the return.
+    #[inline(always)]
     fn unlock_or_wait<T, R: Wait>(
         &self,
         rt: &R,

@@ -24,6 +24,7 @@ impl<K: ListKeeper> Book<K> {
     /// Looks at the mark once, and marks what it sees where that is above the mark of the core: the trail and the
     /// list get the entry. `TrailFull`, where the trail has no room for the mark, adds none.
     #[tactic(auto, using(crate::proofs::Asking::mark_refused))]
+    #[inline(always)]
     pub fn look(
         &mut self,
         core: &mut PoolCore<K>,
@@ -59,6 +60,7 @@ impl<K: ListKeeper> Book<K> {
     ///
     /// `NoVictim`, `NeedLog` and `Busy` are the reply of the entry; `TrailFull` and `OutOfMemory` add none.
     #[tactic(auto, using(crate::proofs::Asking::fix_refused, crate::proofs::Asking::write_first_sized))]
+    #[inline(always)]
     pub fn ask_fix(&mut self, core: &mut PoolCore<K>, page: PageNo) -> Result<Fix, Refusal>
         requires client_in { self.old.client < core.old.parameters.clients }
         requires page_in { page < core.old.parameters.pages }
@@ -221,6 +223,7 @@ impl<K: ListKeeper> Book<K> {
     /// list get the read, each with an image of its own, where they are kept. `TrailFull`, `UnknownPass` and
     /// `OutOfMemory` add no entry, and leave the bytes that were there.
     #[tactic(auto, using(crate::proofs::Asking::read_refused))]
+    #[inline(always)]
     pub fn ask_read_into(
         &mut self,
         core: &mut PoolCore<K>,

@@ -26,6 +26,7 @@ use bp_session_log::{Book, Fix, Flush, PendingRead, PendingWrite};
 
 impl<N: PartNames, K: ListKeeper> LockedPool<N, K> {
     /// Asks for a page, after one look at the mark.
+    #[inline(always)]
     pub(crate) fn fix(
         &mut self,
         mark: &Mark,
@@ -295,6 +296,7 @@ impl<N: PartNames, K: ListKeeper> LockedPool<N, K> {
     }
 
     /// Copies bytes of the page of a pass of the list's client.
+    #[inline(always)]
     pub(crate) fn read_into(
         &mut self,
         session: &mut Session<N, K>,

@@ -83,6 +83,7 @@ impl<N: PartNames, K: ListKeeper> SharedPool<N, K> {
     /// Takes the memory for one more event, and asks for a page in one critical section. Where another client has the
     /// page in flight, which is `Busy`, some device work has ended at the return. `OutOfMemory` comes before the lock
     /// is taken, or from the core under it.
+    #[inline(always)]
     fn ask_fix<R: Wait>(
         &self,
         rt: &R,
