@@ -8,8 +8,8 @@
 //! critical section of a session first takes back what the session posted, so the trail's entries of the client are then
 //! the session's list: all of it, each unfix in its place. So they are when a session ends at a [`ClosedPool`].
 //!
-//! What a hit calls is marked to stand in line: a call of it hands the pass and the answer on through memory, and took a
-//! ninth of the instructions of a hit that is read.
+//! The functions that a hit calls are inlined: called, they hand the pass and the answer on through memory, which took a
+//! ninth of the instructions of a hit whose page is read.
 #![tactic(auto)]
 
 pub mod closed_part;
