@@ -192,6 +192,8 @@ def main():
     threads = sys.argv[1:2] == ["threads"]
     rounds = int(sys.argv[1 + threads])
     words = sys.argv[2 + threads:]
+    if threads and any(it not in KINDS and not (it.isdigit() and 0 < int(it) and 32 % int(it) == 0) for it in words):
+        sys.exit("side_by_side.py: KIND is `silent`, `recorded`, or a number of parts that divides the period of 32 ticks")
     with tempfile.TemporaryDirectory(prefix="side-by-side-") as folder:
         mpool, pages = f"{folder}/mpool", f"{folder}/pages.bin"
         subprocess.run(["cc", "-O2", f"{TOP}/peers/mpool.c", "-ldb", "-o", mpool], check=True)

@@ -1,4 +1,4 @@
-/* Uses a second that empty locks would give on the lines of memory that a hit touches: a pool in parts stays below that.
+/* Uses a second that empty locks give on the lines of memory that a hit touches, as a measure for a pool in parts.
  *
  *     peers/c/locks PAGES PARTS SECTIONS SECONDS [THREADS]
  *

@@ -18,7 +18,8 @@ impl LogState for () {
 /// The log writer of all parts, and an engine's state. All workers of a run share them behind a lock. Contracts see the
 /// state, and the greatest LSN that the writer raised the marks to.
 ///
-/// Whoever raises the marks has the state agree with that before the lock goes back.
+/// Whoever raises the marks has the state agree with that before the lock goes back. While the lock is held, marks may
+/// be ahead of the state, and pages go out by them: so make the log durable first.
 #[derive(Drop)]
 pub struct SharedLog<N: PartNames + PartCount, T: LogState = ()> {
     pub state: T,

@@ -94,8 +94,8 @@ pub fn create<S: LogStore<P>, P: Port>(
 
 /// Opens a table after a crash, whose log is in one of two files of one size: makes that log durable, puts its commits
 /// into the pages, durably, and begins the log anew in the other file. Returns true where that is the second one. It may
-/// be stopped at any moment, and begun again, also where a file fails, unless that was the write of the first record:
-/// then what a crash leaves of the next opening is not told, but all is once it has passed.
+/// be stopped at any moment, and begun again, also where a file fails, unless that was the write or the sync of the first
+/// record: then what a crash leaves of the next opening is not told, but all is once it has passed.
 ///
 /// `Device` where a file fails or is shorter than it is to be, `OtherSize` where the log is of a file of another size,
 /// `OtherPages` where it is of pages of another number or size, `OtherTable`, `TwoLogs` where both begin at the same LSN,
