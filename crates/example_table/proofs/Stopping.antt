@@ -23,7 +23,7 @@ use Rattle.example_log.specs.Promise.{MayBeRedone}
 use Rattle.example_log.proofs.CommitsRead.{whole-commits}
 use Rattle.example_table.specs.Checkpoints.{IsMoving}
 use Rattle.example_table.specs.Checkpoints.IsMoving.{staying, moving}
-use Rattle.example_table.specs.Opening.{AreWithin, Beginning, BeginsBefore, FindsLog, IsNewer, IsOpening, MayBeOpened, again_of}
+use Rattle.example_table.specs.Opening.{AreWithin, Beginning, BeginsBefore, FindsLog, IsNewer, IsOpening, IsWiped, MayBeOpened, again_of}
 use Rattle.example_table.specs.Opening.IsOpening.{settling, redoing as redoing_it, beginning as beginning_it}
 use Rattle.example_table.specs.Tables.{Cut, Stands}
 use Rattle.example_table.proofs.Checkpoints.{may-be-opened, old-left}
@@ -274,7 +274,5 @@ opening-found tears device table newer older newer_file file left_newer left_old
 none-before : (bytes : List ℕ) → NoFrame bytes → (to : ℕ) → BeginsBefore to bytes
 none-before bytes none to = λ lsn payload rest fit e. absurd (none lsn payload rest fit e)
 
-pub wiped-all : (file : List ℕ) (before : List FileCall) → length (written_bytes file before) ≡ length file
-    → (failed (wiped_by (length file) ++ before) ≡ false) × (length (written_bytes file (wiped_by (length file) ++ before)) ≡ length file) × ((to : ℕ) → BeginsBefore to (synced_bytes file (wiped_by (length file) ++ before))) × ((to : ℕ) → BeginsBefore to (written_bytes file (wiped_by (length file) ++ before)))
-    × ((to : ℕ) (left : List ℕ) → FileLeaves file (wiped_by (length file) ++ before) left → BeginsBefore to left)
+pub wiped-all : (file : List ℕ) (before : List FileCall) → length (written_bytes file before) ≡ length file → IsWiped file (wiped_by (length file) ++ before)
 wiped-all file before long = (let e = is-emptied file before long in (e.well, e.long, none-before _ e.durably, none-before _ e.last, λ to left leaves. none-before left (e.left left leaves) to))

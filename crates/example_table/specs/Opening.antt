@@ -29,6 +29,14 @@ BeginsBefore first bytes =
     (lsn : ℕ) (payload rest : List ℕ) → IsRecord lsn payload → bytes ≡ frame lsn payload ++ rest
     → lsn < first
 
+-- a file was wiped, durably: no log begins in it, whatever a crash leaves of it
+abbrev pub IsWiped : List ℕ → List FileCall → Type 0
+IsWiped file calls =
+    (failed calls ≡ false) × (length (written file calls) ≡ length file)
+    × ((to : ℕ) → BeginsBefore to (synced file calls))
+    × ((to : ℕ) → BeginsBefore to (written file calls))
+    × ((to : ℕ) (left : List ℕ) → FileLeaves file calls left → BeginsBefore to left)
+
 -- a file has these commits, and the other one no log that begins as late
 pub record IsNewer (table newer older : List ℕ) (first last : ℕ) (changes : List LogRecord)
     : Type 0 where

@@ -14,7 +14,7 @@ ghost use Rattle.example_log.specs.LogFiles.{Wipes, wiped_by};
 ghost use Rattle.example_log.specs.Moments.{AtEach, Step, log_in, pages_in, spare_in};
 ghost use Rattle.example_log.specs.Promise.{MayBeRedone, Recovers};
 ghost use Rattle.example_table.specs.Checkpoints.{IsMoving};
-ghost use Rattle.example_table.specs.Opening.{AreWithin, Beginning, BeginsBefore, FindsLog, IsNewer, IsOpening, MayBeOpened, again_of};
+ghost use Rattle.example_table.specs.Opening.{AreWithin, Beginning, BeginsBefore, FindsLog, IsNewer, IsOpening, IsWiped, MayBeOpened, again_of};
 ghost use Rattle.example_table.specs.Tables.{Cut, Stands, TableRan};
 
 /// Stop a table that ran so at any moment of its device since its log was begun, by a loss of power or by the end of its process
@@ -168,13 +168,9 @@ pub fn a_checkpoint_may_be_stopped()
         Wipes (length file) more → TellsTrue start (synced_bytes file (more ++ before))
         (written_bytes file (more ++ before)) left →
         BeginsBefore to left }
-    ensures wiped { (file : List ℕ) (before : List FileCall) → length (written_bytes file before) ≡ length file →
-        (failed (wiped_by (length file) ++ before) ≡ false)
-        × (length (written_bytes file (wiped_by (length file) ++ before)) ≡ length file)
-        × ((to : ℕ) → BeginsBefore to (synced_bytes file (wiped_by (length file) ++ before)))
-        × ((to : ℕ) → BeginsBefore to (written_bytes file (wiped_by (length file) ++ before)))
-        × ((to : ℕ) (left : List ℕ) → FileLeaves file (wiped_by (length file) ++ before) left →
-        BeginsBefore to left) }
+    ensures wiped { (file : List ℕ) (before : List FileCall) →
+        length (written_bytes file before) ≡ length file →
+        IsWiped file (wiped_by (length file) ++ before) }
     ensures good { (file : List ℕ) (start : ℕ) (calls : List FileCall) (log : List (List ℕ))
         (durable : ℕ) → LogLife file start true calls log durable → failed calls ≡ false }
 {}

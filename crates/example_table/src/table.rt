@@ -423,9 +423,10 @@ impl<S: LogStore<P>, P: Port> Table<S, P> {
             (commits : List (List Record)) →
             IsTable (head_is self.old.log.size (P.geometry_of self.old.pool.port) table.now) cut file
             start synced calls log_calls commits records [] self.old.pool self.old.log →
-            length (written other before) ≡ length other → spare.old.size ≡ length other → Checkpoints S.reads S.writes S.syncs P.read_gives
-            P.write_gives P.sync_gives self.old.pool self.new.pool self.old.log self.new.log spare.old
-            spare.new (head_is self.old.log.size (P.geometry_of self.old.pool.port) table.now) cut file
+            length (written other before) ≡ length other → spare.old.size ≡ length other →
+            Checkpoints S.reads S.writes S.syncs P.read_gives P.write_gives P.sync_gives
+            self.old.pool self.new.pool self.old.log self.new.log spare.old spare.new
+            (head_is self.old.log.size (P.geometry_of self.old.pool.port) table.now) cut file
             start calls log_calls commits records other before result }
         ensures refused { OnErr result ((self.new.is_ended ≡ true) ⊎ (spare.new ≡ spare.old)) }
         ensures alive { OnOk result
