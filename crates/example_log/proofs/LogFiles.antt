@@ -15,7 +15,7 @@ use Rattle.example_log.specs.LogFiles.{AppendFault, BeginFault, BeginsBy, StopFa
 use Rattle.example_log.specs.LogFiles.BeginsBy.{wiping, wiped as by_wiped, wrote as by_wrote, synced as by_synced}
 use Rattle.example_log.specs.LogFiles.AppendFault.{has_ended, no_memory, no_lsn, no_room, failed as append_failed}
 use Rattle.example_log.specs.LogFiles.StopFault.{no_memory as stop_no_memory, failed as stop_failed}
-use Rattle.example_log.specs.LogFiles.BeginFault.{no_memory as begin_no_memory, failed as begin_failed, no_lsn as begin_no_lsn, no_room as begin_no_room}
+use Rattle.example_log.specs.LogFiles.BeginFault.{no_memory as begin_no_memory, wiped as begin_wiped, failed as begin_failed, no_lsn as begin_no_lsn, no_room as begin_no_room}
 use Rattle.example_log.specs.LogFiles.Settles.{nothing as settles_nothing, unwritten as settles_unwritten, synced as settles_synced}
 use Rattle.example_log.specs.declared.log.LogFault.{LogFault}
 use Rattle.example_log.specs.declared.log.LogFault.TheVariants.{Device}
@@ -150,7 +150,7 @@ module _ {S : Type 0} (reads writes : Transfer S) (syncs : StoreSync S) where
     Unbegun after why = BeginFault reads writes syncs old.size start head old.store after why
 
     pub unwiped-fault : (after : S) (why : LogFault) → StopFault reads writes syncs (Wipes old.size) old.store after why → Unbegun after why
-    unwiped-fault after _ (stop_no_memory same) = begin_no_memory
+    unwiped-fault after _ (stop_no_memory same) = begin_no_memory same
     unwiped-fault after _ (stop_failed calls did by bad) = begin_failed calls did (wiping by) bad
 
     pub wiped-not : (new : LogFile S) → WipesFile reads writes syncs old.size old.store false new.store → Begun new false
@@ -190,7 +190,7 @@ module _ {S : Type 0} (reads writes : Transfer S) (syncs : StoreSync S) where
 
       pub unappended-fault : (new : LogFile S) (fault : LogFault) → AppendFault writes empty head new fault → Unbegun new.store fault
       unappended-fault new _ (has_ended e same) = absurd (cc)
-      unappended-fault new _ (no_memory e same) = begin_no_memory
+      unappended-fault new _ (no_memory e same) = begin_wiped (subst (λ (s : S). FileDid reads writes syncs old.store (wiped_calls old.size) s) (sym (ap (λ (f : LogFile S). f.store) same)) did-wipe)
       unappended-fault new _ (no_lsn e le same) = begin_no_lsn (omega arith)
       unappended-fault new _ (no_room e lt same) = begin_no_room (omega (arith, as_before))
       unappended-fault new _ (append_failed room ended gave) = begin_failed (Write 0 (frame start head) false ∷ wiped_calls old.size) (store, did-wipe, gave) (by_wrote false (is-record room) (has-room room)) refl

@@ -114,10 +114,13 @@ pub data StopFault {S : Type 0} (reads writes : Transfer S) (syncs : StoreSync S
   failed : (calls : List FileCall) → FileDid reads writes syncs old calls new → By calls
       → ends_badly calls ≡ true → StopFault reads writes syncs By old new FileFailed
 
--- why a log was not begun in a file of so many bytes
+-- why a log was not begun in a file of so many bytes: memory was short, before it was wiped or once it
+-- was; or the last of its calls failed; or there is no LSN, or no room for the head
 pub data BeginFault {S : Type 0} (reads writes : Transfer S) (syncs : StoreSync S) (size lsn : ℕ)
     (head : List ℕ) (old new : S) : LogFault → Type 0 where
-  no_memory : BeginFault reads writes syncs size lsn head old new Memory
+  no_memory : new ≡ old → BeginFault reads writes syncs size lsn head old new Memory
+  wiped : FileDid reads writes syncs old (wiped_by size) new
+      → BeginFault reads writes syncs size lsn head old new Memory
   failed : (calls : List FileCall) → FileDid reads writes syncs old calls new
       → BeginsBy size lsn head calls → ends_badly calls ≡ true
       → BeginFault reads writes syncs size lsn head old new FileFailed

@@ -56,7 +56,8 @@ pub data CheckpointFault {S P : Type 0} (reads writes : P → Transfer S) (syncs
       → CheckpointFault reads writes syncs page_syncs ended old new log spare new_spare head (Log Ended)
   sizes : spare.size ≢ log.size
       → CheckpointFault reads writes syncs page_syncs ended old new log spare new_spare head (Log OtherSize)
-  no_memory : CheckpointFault reads writes syncs page_syncs ended old new log spare new_spare head (Log Memory)
+  no_memory : new ≡ old → new_spare ≡ spare
+      → CheckpointFault reads writes syncs page_syncs ended old new log spare new_spare head (Log Memory)
   not_durable : {why : TableFault} (mid : LogFile S) → DurableFault syncs old log mid why
       → CheckpointFault reads writes syncs page_syncs ended old new log spare new_spare head why
   not_saved : {why : TableFault} → SaveFault page_syncs new why

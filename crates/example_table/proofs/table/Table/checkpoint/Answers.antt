@@ -74,7 +74,7 @@ pub returns-then-spare-self-clause-fault : goal.returns-then-spare-self-clause-f
 returns-then-spare-self-clause-fault g c = sizes c.if-spare-self.true
 
 pub returns-in_err-head-clause-fault : goal.returns-in_err-head-clause-fault
-returns-in_err-head-clause-fault g c = fault-as c.from_residual.result (Log Memory) (CheckpointFault g.S.LogStore.reads g.S.LogStore.writes g.S.LogStore.syncs g.P.Port.sync_gives c.args.self.now.is_ended c.args.self.now.pool c.args.self.now.pool c.args.self.now.log c.args.spare.now c.args.spare.now (head_of c.args.self.now.log.size (g.P.Port.geometry_of c.args.self.now.pool.port) c.args.table.now)) c.from_residual.ensures.1 no_memory
+returns-in_err-head-clause-fault g c = fault-as c.from_residual.result (Log Memory) (CheckpointFault g.S.LogStore.reads g.S.LogStore.writes g.S.LogStore.syncs g.P.Port.sync_gives c.args.self.now.is_ended c.args.self.now.pool c.args.self.now.pool c.args.self.now.log c.args.spare.now c.args.spare.now (head_of c.args.self.now.log.size (g.P.Port.geometry_of c.args.self.now.pool.port) c.args.table.now)) c.from_residual.ensures.1 (no_memory refl refl)
 
 pub returns-in_err-make_durable-clause-fault : goal.returns-in_err-make_durable-clause-fault
 returns-in_err-make_durable-clause-fault g c =
