@@ -1,6 +1,6 @@
 -- What each call answers and leaves.
 use Rattle.std.specs.Prelude.{◌≡◌, ℕ, ◌+◌, ◌^◌, ◌<◌, ◌≤◌, Bool, true, false, List, [], ◌++◌, ◌⊎◌}
-use Rattle.std.specs.Prelude.{reverse, Some, None, Result, Ok, Err, length, take, drop}
+use Rattle.std.specs.Prelude.{reverse, Option, Some, None, Result, Ok, Err, length, take, drop}
 use Rattle.bp_page.specs.declared.refusals.Refusal.{Refusal}
 use Rattle.bp_page.specs.declared.refusals.Refusal.TheVariants as refusal
 use Rattle.bp_page.specs.declared.refusals.PortFault.{PortFault}
@@ -8,6 +8,7 @@ use Rattle.bp_trail.specs.Parameters.{Parameters}
 use Rattle.bp_trail.specs.Event.{Grant, grant}
 use Rattle.bp_trail.specs.Clock.{clock}
 use Rattle.bp_trail.specs.Images.{held}
+use Rattle.bp_trail.specs.Places.{resident}
 use Rattle.bp_trail.specs.Passes.{passes, tickets, passes_out, reads_out, writes_out}
 use Rattle.bp_trail.specs.Saved.{page_lsn}
 use Rattle.bp_trail.specs.Legal.{is_out, Legal}
@@ -299,6 +300,33 @@ ReadIntoOutcome old pass offset before (Ok done) after new =
     × (after ≡ take (length before) (drop offset (held past pass.page))))
 ReadIntoOutcome old pass offset before (Err why) after new =
     ReadOutcome old pass (Err why) new × (after ≡ before)
+
+-- the entries of a page that is fixed, read and unfixed at once
+abbrev pub with_read : CoreView → ℕ → ℕ → ℕ → List ℕ → CoreView
+with_read core client page n image =
+    with_entry
+    (with_entry (with_entry core client (Fix page) (Hit n)) client (Read n page) (Content image))
+    client (Unfix n page) Done
+
+-- a page that is in a frame was: the pass came back, and bytes of the image held stand in place of
+-- those that were there; where it is in none, and where that is refused, nothing changes
+abbrev pub ReadResidentOutcome : CoreView → ℕ → ℕ → ℕ → List ℕ → Result (Option Grant) Refusal
+    → List ℕ → CoreView → Type 0
+ReadResidentOutcome old client page offset before (Ok (Some pass)) after new =
+    EachPast old (λ past. HasRoomFor 3 old × (resident past page ≡ true)
+    × (pass ≡ grant client page pass.serial)
+    × (new ≡ with_read old client page pass.serial (held past page))
+    × EachPast new (Legal new.parameters)
+    × (after ≡ take (length before) (drop offset (held past page))))
+ReadResidentOutcome old client page offset before (Ok None) after new =
+    HasRoomFor 3 old × EachPast old (λ past. resident past page ≡ false) × (after ≡ before)
+    × (new ≡ old)
+ReadResidentOutcome old client page offset before (Err refusal.TrailFull) after new =
+    LacksRoomFor 3 old × (after ≡ before) × (new ≡ old)
+ReadResidentOutcome old client page offset before (Err refusal.OutOfMemory) after new =
+    HasRoomFor 3 old × EachPast old (λ past. resident past page ≡ true) × (after ≡ before)
+    × (new ≡ old)
+ReadResidentOutcome old client page offset before (Err _) after new = ⊥
 
 abbrev pub WriteOutcome : {A : Type 0} → CoreView → Pass → ℕ → List ℕ → ℕ → Result A Refusal
     → CoreView → Type 0

@@ -10,6 +10,7 @@ mod fixing;
 mod loading;
 mod lookups;
 mod queries;
+mod reading;
 mod upkeep;
 mod write_outs;
 

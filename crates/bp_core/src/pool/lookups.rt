@@ -1,5 +1,6 @@
 //! Look-ups that calls make before they change anything, and an entry that changes nothing else.
-ghost use Rattle.std.specs.Prelude.{◌≡◌, ◌<◌, true, false, IfSome, IfNone};
+ghost use Rattle.std.specs.Prelude.{◌≡◌, ◌<◌, true, false, length, IfSome, IfNone};
+ghost use Rattle.bp_trail.specs.Images.{held};
 ghost use Rattle.bp_trail.specs.Places.{loading, resident};
 ghost use Rattle.bp_trail.specs.Legal.{allowed, is_out};
 ghost use Rattle.bp_trail.specs.Passes.{reads_out};
@@ -11,7 +12,7 @@ use crate::passes::Pass;
 use crate::pool::PoolCore;
 use bp_frames::Frame;
 use bp_keeper::Keeper;
-use bp_page::PageNo;
+use bp_page::{Image, PageNo};
 use bp_trail::{Call, Grant, Reply};
 
 impl<K: Keeper> PoolCore<K> {
@@ -59,6 +60,17 @@ impl<K: Keeper> PoolCore<K> {
     {
         let slot = self.state.frames.find(page)?;
         Some(self.state.frames.frame(&slot))
+    }
+
+    /// Lends the image of a page that is in a frame. It copies nothing and adds no entry. `None` where it is in none.
+    pub fn resident_image(&self, page: PageNo) -> Option<&Image>
+        ensures held { IfSome result (λ image. EachPast self.now
+            (λ past. image.now ≡ held past page)) }
+        ensures size { IfSome result (λ image. length image.now ≡ self.now.parameters.size) }
+        ensures away { IfNone result (EachPast self.now (λ past. resident past page ≡ false)) }
+    {
+        let slot = self.state.frames.find(page)?;
+        Some(&self.state.frames.frame(&slot).image)
     }
 
     /// Adds an entry that changes nothing else.
