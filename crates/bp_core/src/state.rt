@@ -65,12 +65,11 @@ impl State {
         self.frames.frame(slot).block.unwrap()
     }
 
-    /// Makes the page in a frame a candidate for replacement, if nobody uses it any longer. `k` is the K of its K-th
-    /// stamp.
+    /// Makes the page in a frame a candidate for replacement, by its references as they are, if nobody uses it any longer.
+    /// `k` is the K of its K-th stamp.
     pub(crate) fn end_use(&mut self, slot: &FrameSlot, k: usize)
         requires at { IsSlotIn self.old.frames slot.now }
         requires blocks { TellBlocks self.old.histories self.old.frames.frames }
-        requires apart { entry_of self.old.frames.candidates slot.now.page ≡ None }
         ensures same { self.new ≡ record self.old {
           frames = record self.old.frames { candidates = self.new.frames.candidates };
         } }

@@ -283,11 +283,10 @@ impl FrameTable {
         self.empty_frames.push_reserved(slot.index);
     }
 
-    /// Enters the page among the candidates, where it is not yet, with its K-th stamp and the time of its newest
+    /// Enters the page among the candidates, or anew where it is one, with its K-th stamp and the time of its newest
     /// reference, in ticks. It takes no memory.
     pub fn enter(&mut self, slot: &FrameSlot, hist_k: u64, last: u64)
-        requires at { IsSlotIn self.old slot.now }
-        requires apart { entry_of self.old.candidates slot.now.page ≡ None }
+        requires { IsSlotIn self.old slot.now }
         ensures same { self.new ≡ record self.old { candidates = self.new.candidates } }
         ensures entered { entry_of self.new.candidates slot.now.page ≡ Some (hist_k, last) }
         ensures others { (q : ℕ) → q ≢ slot.now.page → entry_of self.new.candidates q

@@ -28,6 +28,17 @@ impl Model for SeatList {
     ghost invariant = { λ s. length s.taken.items ≡ length s.entries.items };
 }
 
+// Sets a flag. One that stays as it is is not written, since its line of memory has the flags of many seats, which
+// other processors may have.
+fn set_flag(flags: &mut Vec<bool>, at: usize, flag: bool)
+    requires { at < length flags.old.items }
+    ensures { flags.new.items ≡ set flags.old.items at flag }
+{
+    if flags[at] != flag {
+        flags[at] = flag;
+    }
+}
+
 impl SeatList {
     /// Makes `size` empty seats. It fails by want of memory alone; no other call takes any.
     pub fn new(alloc: Global, size: usize) -> Result<SeatList, AllocError>
@@ -79,7 +90,7 @@ impl SeatList {
         requires { seat < length self.old }
         ensures { self.new ≡ set self.old seat entry }
     {
-        self.taken[seat] = entry.is_some();
+        set_flag(&mut self.taken, seat, entry.is_some());
         if let Some(candidate) = entry {
             self.entries[seat] = candidate;
         }

@@ -59,10 +59,9 @@ impl Candidates {
         })
     }
 
-    /// Enters a page at an empty seat, with its K-th stamp and the time of its newest reference.
+    /// Enters a page at a seat, with its K-th stamp and the time of its newest reference. Who stood there has left.
     pub fn enter(&mut self, seat: usize, page: PageNo, hist_k: u64, last: u64)
-        requires seat { seat < length self.old.seats }
-        requires empty { seat_of self.old seat ≡ None }
+        requires { seat < length self.old.seats }
         ensures { self.new ≡ with_seat self.old seat (Some (hist_k, last, page)) }
     {
         self.tree.put(seat, Some((hist_k, last, page)));

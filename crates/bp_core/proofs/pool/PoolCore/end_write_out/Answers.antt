@@ -26,11 +26,6 @@ end_use-requires-clause-at g c = rw c.end_write_out.ensures (found c.self.inside
 pub end_use-requires-clause-blocks : goal.end_use-requires-clause-blocks
 end_use-requires-clause-blocks g c = rw c.end_write_out.ensures (told-after _ _ _ c.self.invariant c.unwrap-slot.result.page saved (λ f. refl) (λ f. refl))
 
-pub end_use-requires-clause-apart : goal.end_use-requires-clause-apart
-end_use-requires-clause-apart g c =
-    let at = found c.self.inside.state.frames c.args.ticket.page c.find.result c.unwrap-slot.result c.find.ensures.found c.unwrap-slot.ensures in
-    rw (c.end_write_out.ensures, at.1) (no-candidate _ _ _ c.self.invariant _ c.self.view_is c.args.ticket.client c.args.ticket.page c.args.ticket.serial (write-seen _ _ _ c.self.invariant _ c.self.view_is (grant c.args.ticket.client c.args.ticket.page c.args.ticket.serial) true (sym c.take_back.ensures.was ∙ c.if-not-take_back.false)))
-
 pub invariant_of-self-then-is_rewritten : goal.invariant_of-self-then-is_rewritten
 invariant_of-self-then-is_rewritten g c =
     let at = found c.self.inside.state.frames c.args.ticket.page c.find.result c.unwrap-slot.result c.find.ensures.found c.unwrap-slot.ensures in

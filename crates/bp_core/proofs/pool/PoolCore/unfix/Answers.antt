@@ -33,12 +33,6 @@ end_use-requires-clause-at g c = rw c.unpin.ensures (found c.self.inside.state.f
 pub end_use-requires-clause-blocks : goal.end_use-requires-clause-blocks
 end_use-requires-clause-blocks g c = rw c.unpin.ensures (told-after _ _ _ c.self.invariant c.unwrap-slot.result.page unpinned (λ f. refl) (λ f. refl))
 
-pub end_use-requires-clause-apart : goal.end_use-requires-clause-apart
-end_use-requires-clause-apart g c =
-    let p = c.args.pass in
-    let at = found c.self.inside.state.frames c.args.pass.page c.find.result c.unwrap-slot.result c.find.ensures.found c.unwrap-slot.ensures in
-    rw (c.unpin.ensures, at.1) (no-candidate _ _ _ c.self.invariant _ c.self.view_is p.client p.page p.serial (pass-seen _ _ _ c.self.invariant _ c.self.view_is (grant p.client p.page p.serial) true (sym c.take_back.ensures.was ∙ c.if-not-take_back.false)))
-
 pub invariant_of-self-2 : goal.invariant_of-self-2
 invariant_of-self-2 g c =
     let p = c.args.pass in
