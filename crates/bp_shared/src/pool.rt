@@ -152,13 +152,14 @@ pub struct SharedPool<N: PartNames, K: ListKeeper = RecordingKeeper> {
     /// Its number, where several stand side by side.
     part: u8,
     mark: Mark,
+    /// The room of the core's trail, so that a cut can reserve it without the lock.
+    room: usize,
+    /// The clients whose rings have passes that no section asked for. Each section looks at it, so it stands beside the
+    /// lock.
+    posted: Posted,
     state: Mutex<LockedPool<N, K>>,
     /// Where sessions wait for the end of device work.
     ended: Condvar,
-    /// The clients whose rings have passes that no section asked for.
-    posted: Posted,
-    /// The room of the core's trail, so that a cut can reserve it without the lock.
-    room: usize,
 }
 
 impl<N: PartNames, K: ListKeeper> Model for SharedPool<N, K> {
