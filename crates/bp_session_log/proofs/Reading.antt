@@ -1,5 +1,5 @@
 -- The entries of a page that is read at once, in a client's list.
-use Rattle.std.proofs.Common.{◌≡◌, refl, ap, ℕ, Bool, true, ◌&&◌, ◌||◌, ◌==◌, List}
+use Rattle.std.proofs.Common.{◌≡◌, refl, ap, ℕ, true, ◌&&◌, ◌||◌, ◌==◌, List}
 use Rattle.std.proofs.lemmas.Bool.{eq-eqb, and_from}
 use Rattle.bp_trail.specs.Event.{Grant, grant, same_grant}
 use Rattle.bp_trail.specs.Legal.{is_out}

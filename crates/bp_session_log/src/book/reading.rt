@@ -1,5 +1,5 @@
 //! A page that is in a frame is fixed, read and unfixed at once.
-ghost use Rattle.std.specs.Prelude.{◌≡◌, ◌≢◌, ◌≤◌, ◌<◌, ◌+◌, false, length};
+ghost use Rattle.std.specs.Prelude.{◌≡◌, ◌≢◌, ◌≤◌, ◌<◌, ◌+◌, false, length, None};
 ghost use Rattle.bp_core.specs.Outcomes.{ReadResidentOutcome};
 ghost use Rattle.bp_session_log.specs.Books.{AddsPiece};
 ghost use Rattle.bp_session_log.specs.Turns.{ReadResidentTurn};
@@ -12,7 +12,8 @@ use bp_page::{PageNo, Refusal};
 impl<K: ListKeeper> Book<K> {
     /// Copies bytes of a page that is in a frame, from the offset on, as many as `into` has. The trail and the list get
     /// the fix, the read and the unfix, and the note of the pass is returned, which came back. `None` where the page is
-    /// in no frame; `TrailFull` and `OutOfMemory`. All three add no entry, and leave the bytes that were there.
+    /// in no frame; `TrailFull`, and `OutOfMemory`, which a silent core never answers. All three add no entry, and leave
+    /// the bytes that were there.
     #[inline(always)]
     pub fn ask_read_resident(
         &mut self,
@@ -34,7 +35,9 @@ impl<K: ListKeeper> Book<K> {
         ensures outcome { ReadResidentTurn self.old.client page offset into.old result into.new
             self.old.said self.new.said }
         ensures passes { self.old.passes ≤ self.new.passes + 1 }
+        ensures stays { result ≡ Ok None → self.new.passes ≡ self.old.passes }
         ensures places { self.new.places ≡ self.old.places }
+        ensures memory { K.REFUSES ≡ false → result ≢ Err Refusal.OutOfMemory }
     {
         let Some(note) = core.read_resident(self.client, page, offset, into)? else {
             return Ok(None);
