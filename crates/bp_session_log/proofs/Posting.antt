@@ -1,8 +1,6 @@
 -- The room that a list keeps, after one of its passes went back.
-use Rattle.std.proofs.Common.{◌≡◌, refl, sym, ap, subst, ◌∙◌, ℕ, suc, ◌+◌, ◌≤◌, Bool, true, false, ◌==◌, ◌||◌, not, cond, All, List, [], ◌∷◌, length, filter, reverse, arith}
+use Rattle.std.proofs.Common.{◌≡◌, refl, sym, ap, subst, ◌∙◌, ℕ, suc, ◌+◌, ◌≤◌, Bool, true, false, ◌==◌, ◌||◌, not, cond, All, List, [], ◌∷◌, length, filter, arith}
 use Rattle.std.proofs.lemmas.Bool.{eqb-true, eq-eqb, and_parts}
-use Rattle.std.proofs.lemmas.List.{reverse-reverse}
-use Rattle.std.proofs.lemmas.List.Sorted.{IsPermutation-reverse, list_any-IsPermutation}
 use Rattle.std.proofs.lemmas.List.Elements.{All-filter}
 use Rattle.bp_trail.specs.declared.entries.Call.TheVariants.{Unfix}
 use Rattle.bp_trail.specs.declared.entries.Reply.TheVariants.{Done}
@@ -11,7 +9,6 @@ use Rattle.bp_trail.specs.Trail.{Trail}
 use Rattle.bp_trail.specs.Passes.{passes_out}
 use Rattle.bp_trail.specs.Legal.{is_out}
 use Rattle.bp_trail.specs.Pieces.{by}
-use Rattle.bp_trail.proofs.Counting.{filter-reverse}
 use Rattle.bp_session_log.specs.Books.{KeepsRoom, open_tickets}
 use Rattle.bp_session_log.proofs.Ending.{filter_le, others}
 

@@ -1,5 +1,5 @@
 -- What a list owes is bounded by its length, so that the room for it can be counted.
-use Rattle.std.proofs.Common.{◌≡◌, ap, ℕ, ◌+◌, ◌*◌, ◌^◌, ◌≤◌, ◌<◌, List, [], ◌∷◌, length, filter, arith, Option, Some, None}
+use Rattle.std.proofs.Common.{ap, ℕ, ◌+◌, ◌*◌, ◌^◌, ◌≤◌, ◌<◌, List, [], ◌∷◌, length, arith, Option, Some, None}
 use Rattle.bp_trail.specs.declared.entries.Reply.{Reply}
 use Rattle.bp_trail.specs.declared.entries.Reply.TheVariants.{Load, WriteFirst}
 use Rattle.bp_trail.specs.Event.{Grant, pass_back}

@@ -1,12 +1,11 @@
 -- The ghost steps of a board: it is made, it gets a line, and one of its lines is written. Assumes `Logic`.
 use Rattle.std.proofs.Common.{◌≡◌, ℕ, zero, suc, ◌+◌, ◌<◌, List, [], ◌∷◌, ◌++◌, length, get_or, set, refl, sym, arith}
-use mathlib.Core.Option.{Option, none, some, some-injective, some-ne-none}
-use mathlib.Core.Option as maybe
+use mathlib.Core.Option.{some, some-injective, some-ne-none}
 use lib.ListN.{get_elem?}
 use seplogic.Ra.Ura.{Ura}
 use base.Fraction.{full_share}
 use base.Share.{quarter, three_quarters}
-use base.Stored.{Gv, Coded}
+use base.Stored.{Gv}
 use base.Logic.{SProp, ent, sep, ex, all, guard, upd, emp, via, all_e, upd_i}
 use base.Fml.{Fml}
 use types.Logic.{Logic, sem}

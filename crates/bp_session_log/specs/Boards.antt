@@ -1,5 +1,5 @@
 -- What each call on a board does.
-use Rattle.std.specs.Prelude.{◌≡◌, ℕ, ◌<◌, List, [], ◌∷◌, ◌++◌, length, slice_index_or, slice_set}
+use Rattle.std.specs.Prelude.{◌≡◌, ◌<◌, [], ◌∷◌, ◌++◌, length, slice_index_or, slice_set}
 use Rattle.bp_trail.specs.Trail.{Trail}
 use Rattle.bp_session_log.specs.declared.boards.Board.{Board}
 use Rattle.bp_session_log.specs.declared.boards.Line.{Line}

@@ -1,5 +1,5 @@
 -- What a session keeps for itself, and the room in which it keeps what it owes.
-use Rattle.std.specs.Prelude.{◌≡◌, ◌⊎◌, ℕ, ◌+◌, ◌-◌, ◌*◌, ◌^◌, ◌≤◌, ◌<◌, Bool, true, false, ◌&&◌, List, [], ◌∷◌, length, reverse, filter_map, All, Option, Some, None}
+use Rattle.std.specs.Prelude.{◌≡◌, ◌⊎◌, ℕ, ◌+◌, ◌-◌, ◌*◌, ◌≤◌, Bool, true, false, ◌&&◌, List, [], ◌∷◌, ◌++◌, length, reverse, filter_map, All, Option, Some, None}
 use Rattle.bp_core.specs.declared.passes.Pass.{Pass}
 use Rattle.bp_core.specs.declared.passes.ReadTicket.{ReadTicket}
 use Rattle.bp_core.specs.declared.passes.WriteTicket.{WriteTicket}
@@ -163,4 +163,19 @@ pub record AddsAlike (core : CoreView) (book : BookValue) (left : CoreView) (kep
 pub record KeepsBook (core : CoreView) (book : BookValue) (left : CoreView) (kept : BookValue)
     : Type 0 where
   pub adds : AddsAlike core book left kept
+  pub durable_stays : durable left.past ≡ durable core.past
+
+-- the core and its client's book got the same entries, and no more of the log is durable by them; each
+-- pass that went back was held, and all else stays but the room
+pub record AddsPiece (core : CoreView) (book : BookValue) (left : CoreView) (kept : BookValue)
+    : Type 0 where
+  pub parameters : left.parameters ≡ core.parameters
+  pub before : left.before ≡ core.before
+  pub client : kept.client ≡ book.client
+  pub size : kept.size ≡ book.size
+  pub handed_out : kept.before ≡ book.before
+  pub piece : Trail
+  pub goes_on : left.past ≡ piece ++ core.past
+  pub grows : kept.said ≡ piece ++ book.said
+  pub still_held : all_held kept.said ≡ all_held book.said
   pub durable_stays : durable left.past ≡ durable core.past

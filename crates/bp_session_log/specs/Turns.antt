@@ -15,9 +15,10 @@ use Rattle.bp_session_log.specs.declared.pending.Flush.TheVariants as flushing
 use Rattle.bp_trail.specs.declared.ends.Ended.{Ended}
 use Rattle.bp_trail.specs.declared.ends.Discarded.{Discarded}
 use Rattle.bp_trail.specs.declared.entries.Call.{Call}
-use Rattle.bp_trail.specs.declared.entries.Call.TheVariants.{Mark, Fix, ReadEnd, WriteEnd, Flush, Discard, Tick, Read, Write, Purge}
+use Rattle.bp_trail.specs.declared.entries.Call.TheVariants.{Mark, Fix, ReadEnd, WriteEnd, Flush, Discard, Tick, Read, Write, Unfix, Purge}
 use Rattle.bp_trail.specs.declared.entries.Reply.{Reply}
 use Rattle.bp_trail.specs.declared.entries.Reply.TheVariants.{Done, Hit, Load, WriteFirst, NoVictim, NeedLog, Busy, Fixed, ReadFailed, WrongPage, WriteFailed, Clean, Absent, Pinned, Content, Forgot}
+use Rattle.bp_trail.specs.Event.{Grant, grant}
 use Rattle.bp_trail.specs.Trail.{Trail}
 use Rattle.bp_trail.specs.Clock.{durable}
 use Rattle.bp_core.specs.CoreView.{CoreView}
@@ -140,6 +141,29 @@ ReadIntoSaid client pass offset before (Ok done) bytes said after =
     × (bytes ≡ take (length before) (drop offset image))
 ReadIntoSaid client pass offset before (Err why) bytes said after =
     ReadSaid client pass (Err why) said after × (bytes ≡ before)
+
+-- the entries of a page that is fixed, read and unfixed at once
+abbrev pub and_read : ℕ → ℕ → ℕ → List ℕ → Trail → Trail
+and_read client page n image said =
+    by client (Unfix n page) Done
+    ∷ by client (Read n page) (Content image)
+    ∷ by client (Fix page) (Hit n) ∷ said
+
+-- a look at a page that is in a frame has them, and bytes of the image from the offset on in place of
+-- those that were there; where the page is in none, and where it is refused, it leaves both
+abbrev pub ReadResidentTurn : ℕ → ℕ → ℕ → List ℕ → Result (Option Grant) Refusal → List ℕ → Trail
+    → Trail → Type 0
+ReadResidentTurn client page offset before (Ok (Some pass)) bytes said after =
+    (image : List ℕ) × (pass ≡ grant client page pass.serial)
+    × (after ≡ and_read client page pass.serial image said)
+    × (bytes ≡ take (length before) (drop offset image))
+ReadResidentTurn client page offset before (Ok None) bytes said after =
+    (after ≡ said) × (bytes ≡ before)
+ReadResidentTurn client page offset before (Err refusal.TrailFull) bytes said after =
+    (after ≡ said) × (bytes ≡ before)
+ReadResidentTurn client page offset before (Err refusal.OutOfMemory) bytes said after =
+    (after ≡ said) × (bytes ≡ before)
+ReadResidentTurn client page offset before (Err _) bytes said after = ⊥
 
 abbrev pub WriteSaid : {A : Type 0} → ℕ → Pass → ℕ → List ℕ → ℕ → Result A Refusal → Trail → Trail
     → Type 0

@@ -14,6 +14,7 @@ mod asking;
 mod ending;
 mod list_cutting;
 mod posting;
+mod reading;
 mod telling;
 
 use bp_core::PassNote;

@@ -57,6 +57,18 @@ fills n m c core after seen are few lacks same is =
 pub ran_over : (n : ℕ) (core after : CoreView) (seen : Trail) → 2 ^ 62 < clock core.past + n → after ≡ core → seen ≡ after.past → 2 ^ 62 < clock seen + n
 ran_over n core after seen over same is = subst (λ s. 2 ^ 62 < clock s + n) (sym (is ∙ ap (λ (v : CoreView). v.past) same)) over
 
+-- after other events of the section a pass was given back
+pub gave_back : (c : Parameters) (start : Trail) (old mid new : SessionValue) (after : CoreView) → old.free ≤ 32 → mid.part ≡ old.part → GoesOnFrom old.seen mid.seen → new.part ≡ mid.part → new.free ≡ 32 → after.parameters ≡ c → Legal after.parameters after.past → new.seen ≡ after.past
+    → IsListOf start after.past new.client new.said → GoesOnFrom mid.seen new.seen → Acted c start old new
+gave_back c start old mid new after few part on still free are legal seen listed more = record {
+  part = still ∙ part;
+  few = few;
+  free = free;
+  legal = subst (Legal c) (sym seen) (subst (λ p. Legal p after.past) are legal);
+  list_is = subst (λ s. IsListOf start s new.client new.said) (sym seen) listed;
+  goes_on = seen_on old.seen mid.seen new.seen on more;
+}
+
 -- ---- one call
 pub acted : {A : Type 0} (c : Parameters) (start : Trail) (r : Result A Refusal) (old new : SessionValue) → Acted c start old new → Acts c start r old new
 acted c start (Ok done) old new a = a

@@ -1,5 +1,5 @@
 -- A fix, turn by turn.
-use Rattle.std.proofs.Common.{◌≡◌, ◌≢◌, refl, sym, ap, ◌∙◌, ℕ, true, false, List, [], ◌∷◌, ◌++◌, append_assoc, Option, Some, None, Result, Ok, Err}
+use Rattle.std.proofs.Common.{◌≡◌, ◌≢◌, refl, sym, ap, ◌∙◌, ℕ, true, false, List, [], ◌∷◌, ◌++◌, append_assoc, Option, Some, None, Result, Ok, Err, arith}
 use Rattle.bp_page.specs.declared.refusals.Refusal.{Refusal}
 use Rattle.bp_page.specs.declared.refusals.Refusal.TheVariants as refusal
 use Rattle.bp_page.specs.declared.refusals.PortFault.{PortFault}
@@ -15,7 +15,9 @@ use Rattle.bp_trail.specs.declared.ends.Ended.{Ended}
 use Rattle.bp_trail.specs.declared.ends.Ended.TheVariants as ended
 use Rattle.bp_trail.specs.Event.{grant}
 use Rattle.bp_trail.specs.Trail.{Trail}
-use Rattle.bp_trail.specs.Pieces.{by, FixGoesOn}
+use Rattle.bp_page.specs.Refusals.{number_of}
+use Rattle.bp_trail.specs.Pieces.{by, FixGoesOn, FixPiece, Outcome}
+use Rattle.bp_trail.specs.Pieces.Outcome.{accepted, refused}
 use Rattle.bp_trail.specs.Pieces.Manner.{session}
 use Rattle.bp_trail.specs.Pieces.FixGoesOn.{begins, marked, waited, cleaned, still_dirty}
 use Rattle.bp_trail.specs.Pieces.FixPiece.{hit, fixed, no_victim, need_log, read_failed, wrong_page, write_failed, lost_read, lost_write, no_room, no_memory}
@@ -180,3 +182,15 @@ unwritten_said writes port kept client page ticket why said mid after t o = go o
     go (Ok done) refusal.UnknownTicket h = record { piece = e ∷ w.piece; grows = h ∙ grown; of_row = (lost_write ticket.serial ticket.page ticket.image refl w.goes_on, tt); gives = gives_none client page w.piece w.goes_on }
     go (Err fault) refusal.UnknownTicket h = record { piece = e ∷ w.piece; grows = h ∙ grown; of_row = (lost_write ticket.serial ticket.page ticket.image refl w.goes_on, tt); gives = gives_none client page w.piece w.goes_on }
     go _ _ h = absurd h
+
+-- no fix is refused for a pass
+abbrev code : Outcome → ℕ
+code accepted = 0
+code (refused n) = n
+
+not_of_pass : (client page : ℕ) (piece : Trail) (o : Outcome) → FixPiece session client page piece o → o ≡ refused 14 → ⊥
+not_of_pass client page _ _ (hit pass i) is = let no = ap code is in omega (arith, no)
+not_of_pass client page _ _ _ is = let no = ap code is in omega (arith, no)
+
+pub no_pass_asked : (client page : ℕ) (why : Refusal) (said after : Trail) → FixSaid client page (Err why) said after → why ≡ refusal.UnknownPass → ⊥
+no_pass_asked client page why said after said_so is = not_of_pass client page said_so.piece (refused (number_of why)) said_so.of_row.0 (ap (λ w. refused (number_of w)) is)

@@ -16,3 +16,4 @@ pub mod Owning
 pub mod Reaching
 pub mod Writing
 pub mod Belonging
+pub mod Returning

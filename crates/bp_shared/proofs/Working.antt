@@ -7,9 +7,9 @@ use Rattle.bp_page.specs.declared.refusals.PortFault.{PortFault}
 use Rattle.bp_page.specs.declared.refusals.PortFault.TheVariants as fault
 use Rattle.bp_trail.specs.Ends.{read_refusal, read_failure, ended_reply}
 use Rattle.bp_trail.specs.declared.entries.Call.{Call}
-use Rattle.bp_trail.specs.declared.entries.Call.TheVariants.{Mark, Fix, ReadEnd, WriteEnd, Flush}
+use Rattle.bp_trail.specs.declared.entries.Call.TheVariants.{Mark, Fix, ReadEnd, WriteEnd, Read, Unfix, Flush}
 use Rattle.bp_trail.specs.declared.entries.Reply.{Reply}
-use Rattle.bp_trail.specs.declared.entries.Reply.TheVariants.{Done, Hit, Load, WriteFirst, Fixed, ReadFailed, WrongPage, WriteFailed, Clean, Absent}
+use Rattle.bp_trail.specs.declared.entries.Reply.TheVariants.{Done, Hit, Load, WriteFirst, Fixed, ReadFailed, WrongPage, WriteFailed, Clean, Absent, Content}
 use Rattle.bp_trail.specs.Trail.{Trail}
 use Rattle.bp_trail.specs.Pieces.{by}
 use Rattle.bp_core.specs.declared.passes.Pass.{Pass}
@@ -24,7 +24,8 @@ use Rattle.bp_session_log.specs.Turns.{fix_refuses, flush_refuses, FixTurn, Flus
 use Rattle.bp_core.specs.Added.{Ends}
 use Rattle.bp_core.specs.Work.{Reads, Writes, Works, WorksThrough}
 use Rattle.bp_shared.proofs.Stepping.{err}
-use Rattle.bp_shared.specs.Sessions.{WithSomeLsn, DoesWorkSaid}
+use Rattle.bp_session_log.specs.Turns.{ReadSaid, ReadIntoSaid}
+use Rattle.bp_shared.specs.Sessions.{WithSomeLsn, DoesWorkSaid, ReadAndUnfixSaid}
 
 -- the reply of a failed read, by its refusal
 failed : (why : PortFault) → read_refusal why ≡ refusal.ReadFailed → ReadFailed ≡ read_failure why
@@ -120,6 +121,24 @@ module _ {A : Type 0} (reads : Reads A) (writes : Writes A) where
       go (Ok done) (Err refusal.UnknownTicket) gave h not = absurd (not refl)
       go (Err why) (Err refusal.UnknownTicket) gave h not = absurd (not refl)
       go _ _ gave h not = absurd h
+
+  -- a read and an unfix have none
+  told-read : (client : ℕ) (pass : Pass) (answer : Result (List ℕ) Refusal) (said mid after : Trail) (port now : A) → DoesWorkSaid reads writes said mid port now → ReadSaid client pass answer mid after → DoesWorkSaid reads writes said after port now
+  told-read client pass (Ok image) said mid after port now w h = one-more said mid after port now now client (Read pass.serial pass.page) (Content image) w h.1 refl
+  told-read client pass (Err refusal.UnknownPass) said mid after port now w h = same-as said mid after port now w h
+  told-read client pass (Err refusal.TrailFull) said mid after port now w h = same-as said mid after port now w h.1
+  told-read client pass (Err refusal.OutOfMemory) said mid after port now w h = same-as said mid after port now w h.1
+  told-read client pass (Err _) said mid after port now w h = absurd h
+
+  told-read-into : {B : Type 0} (client : ℕ) (pass : Pass) (offset : ℕ) (before : List ℕ) (answer : Result B Refusal) (bytes : List ℕ) (said mid after : Trail) (port now : A) → DoesWorkSaid reads writes said mid port now
+      → ReadIntoSaid client pass offset before answer bytes mid after → DoesWorkSaid reads writes said after port now
+  told-read-into client pass offset before (Ok done) bytes said mid after port now w h = told-read client pass (Ok h.0) said mid after port now w h.1
+  told-read-into client pass offset before (Err why) bytes said mid after port now w h = told-read client pass (Err why) said mid after port now w h.0
+
+  pub read-and-unfix-work : {B : Type 0} (client : ℕ) (pass : Pass) (offset : ℕ) (before : List ℕ) (answer : Result B Refusal) (bytes : List ℕ) (said mid after : Trail) (port now : A) → DoesWorkSaid reads writes said mid port now
+      → ReadAndUnfixSaid client pass offset before answer bytes mid after → DoesWorkSaid reads writes said after port now
+  read-and-unfix-work client pass offset before answer bytes said mid after port now w h =
+      one-more said h.0 after port now now client (Unfix pass.serial pass.page) Done (told-read-into client pass offset before answer bytes said mid h.0 port now w h.1) h.2 refl
 
 -- one after the other
 module _ {A : Type 0} (reads : Reads A) (writes : Writes A) where

@@ -15,6 +15,7 @@ use Rattle.bp_trail.specs.Pieces.{by, FixPiece, FlushPiece, DiscardPiece}
 use Rattle.bp_trail.specs.Pieces.Manner.{session}
 use Rattle.bp_trail.specs.Pieces.Outcome.{accepted, refused}
 use Rattle.bp_session_log.specs.Books.{owed}
+use Rattle.bp_session_log.specs.Turns.{ReadIntoSaid}
 use Rattle.bp_trail.specs.declared.ends.Flushed.{Flushed}
 use Rattle.bp_trail.specs.declared.ends.Discarded.{Discarded}
 use Rattle.bp_core.specs.Added.{Gives, Ends}
@@ -109,6 +110,23 @@ FixSaid client page (Ok pass) said after =
 FixSaid client page (Err why) said after =
     Says (λ piece. FixPiece session client page piece (refused (number_of why)) × Repeats why piece)
     None said after
+
+-- bytes of a pass's page were read, and then the pass was given back
+abbrev pub ReadAndUnfixSaid : {A : Type 0} → ℕ → Pass → ℕ → List ℕ → Result A Refusal → List ℕ
+    → Trail → Trail → Type 0
+ReadAndUnfixSaid client pass offset before answer bytes said after =
+    (read : Trail) × ReadIntoSaid client pass offset before answer bytes said read
+    × (after ≡ by client (Unfix pass.serial pass.page) Done ∷ read)
+
+-- a page was fixed, and with the pass read and given back; or the fix was refused, which is all, and
+-- leaves the bytes
+abbrev pub PageReadSaid : {A : Type 0} → ℕ → ℕ → ℕ → List ℕ → Result A Refusal → List ℕ → Trail
+    → Trail → Type 0
+PageReadSaid client page offset before answer bytes said after =
+    ((pass : Pass) × (fixed : Trail) × FixSaid client page (Ok pass) said fixed
+    × ReadAndUnfixSaid client pass offset before answer bytes fixed after)
+    ⊎ ((why : Refusal) × (answer ≡ Err why) × FixSaid client page (Err why) said after
+    × (bytes ≡ before))
 
 abbrev pub FlushSaid : ℕ → ℕ → Result Flushed Refusal → Trail → Trail → Type 0
 FlushSaid client page (Ok how) said after =

@@ -14,6 +14,7 @@ use std::marker::{Model, PhantomData};
 
 mod cut_section;
 mod observing;
+mod returning;
 mod turns;
 
 /// The pool as one thread sees it while it holds the lock. Its trail is legal, by the core's own type; the reader is

@@ -33,6 +33,7 @@ mod fixing;
 mod flush_all;
 mod flushing;
 mod pieces;
+mod reading;
 mod single;
 mod source;
 

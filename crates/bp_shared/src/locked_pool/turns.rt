@@ -311,6 +311,7 @@ impl<N: PartNames, K: ListKeeper> LockedPool<N, K> {
         requires copies { 0 < session.old.copies }
         ensures unknown { result ≡ Err Refusal.UnknownPass
             → pass_is_out pass.now session.old.said ≡ false }
+        ensures part { self.new.part ≡ self.old.part }
         ensures client { session.new.client ≡ session.old.client }
         ensures before { session.new.before ≡ session.old.before }
         ensures acted { Acted N.parameters N.past session.old session.new }

@@ -1,10 +1,10 @@
 -- `line` takes the next key. Assumes `Logic`.
-use Rattle.std.proofs.Common.{ℕ, [], ◌∷◌, ◌++◌, length, refl, sym, subst, List}
+use Rattle.std.proofs.Common.{[], ◌∷◌, ◌++◌, length, refl, sym, subst, List}
 use seplogic.Ra.Ura.{Ura}
 use mir.Syntax.{Fn}
 use mir.Val.{Val, vptr}
 use base.Logic.{SProp, ent, via, fst∗, snd∗}
-use base.Fml.{Fml, ftrue, flft}
+use base.Fml.{ftrue, flft}
 use prog.Memory.{Memory}
 use prog.Routine.{Routine}
 use prog.Wp.{Calls, Loops, WpFn, Tables}

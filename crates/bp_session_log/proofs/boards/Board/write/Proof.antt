@@ -1,5 +1,5 @@
 -- `write` changes the key that both have. Assumes `Logic`.
-use Rattle.std.proofs.Common.{◌≡◌, ℕ, [], ◌∷◌, length, set, refl, sym, subst, List}
+use Rattle.std.proofs.Common.{◌≡◌, ℕ, [], ◌∷◌, set, refl, sym, subst, List}
 use mathlib.Core.Option as maybe
 use lib.ListN.{get_elem?}
 use seplogic.Ra.Ura.{Ura}

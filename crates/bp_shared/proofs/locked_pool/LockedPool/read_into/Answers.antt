@@ -26,6 +26,7 @@ returns g c =
     let done = c.ask_read_into-answer.ensures in
     let adds = adds_one c.session.inside.book.client _ _ _ _ done.keeps.adds.alike (read_into_one _ _ _ _ _ _ _ _ done.outcome) in
     rw (← c.self.view_is, ← c.session.view_is) (record {
+      part = refl;
       client = done.keeps.adds.owner.client;
       before = done.keeps.adds.owner.before;
       acted = shows _ _ _ _ c.self.inside.core c.ask_read_into-answer.new.core c.self.invariant.0.parameters_are done.keeps.adds.parameters c.keeps_the_rules.ensures.legal (rw (← c.self.view_is, ← c.session.view_is) at c.requires.entered.list_is) adds done.keeps.adds.owner.client (rw (← c.session.view_is) at c.requires.entered.emptied) refl (line_earlier _ _ _ _ _ _ _ c.self.invariant.5 c.write-2.ensures) c.write-2.ensures.list_is refl;
