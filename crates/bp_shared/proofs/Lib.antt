@@ -17,3 +17,4 @@ pub mod Reaching
 pub mod Writing
 pub mod Belonging
 pub mod Returning
+pub mod Looking

@@ -34,7 +34,7 @@ use Rattle.bp_session_log.specs.Causes.{EndsRead, EndsWrite}
 use Rattle.bp_shared.specs.Telling.{IsListOf}
 use Rattle.bp_shared.proofs.Holding.{left-passes, out-given, out-left, of-one}
 
-itself : (g : Grant) → same_grant g g ≡ true
+pub itself : (g : Grant) → same_grant g g ≡ true
 itself g = and_from (g.client == g.client) _ (eq-eqb g.client g.client refl) (and_from (g.page == g.page) _ (eq-eqb g.page g.page refl) (eq-eqb g.serial g.serial refl))
 
 -- ---- passes, or tickets of either kind, of which each entry gives one at most, and takes back one at most that is out to its client

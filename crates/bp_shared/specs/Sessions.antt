@@ -1,5 +1,5 @@
 -- What a session's call adds to the session's list, newest first, by what it answers.
-use Rattle.std.specs.Prelude.{◌≡◌, ◌≢◌, ◌⊎◌, ℕ, ◌+◌, ◌^◌, ◌≤◌, zero, suc, true, false, List, [], ◌∷◌, ◌++◌, Option, Some, None, Result, Ok, Err, length, vec_len, vec_capacity}
+use Rattle.std.specs.Prelude.{◌≡◌, ◌≢◌, ◌⊎◌, ℕ, ◌+◌, ◌^◌, ◌≤◌, zero, suc, Bool, true, false, List, [], ◌∷◌, ◌++◌, Option, Some, None, Result, Ok, Err, length, take, drop, vec_len, vec_capacity}
 use Rattle.bp_page.specs.declared.refusals.Refusal.{Refusal}
 use Rattle.bp_page.specs.Refusals.{number_of}
 use Rattle.bp_page.specs.declared.refusals.Refusal.TheVariants as refusal
@@ -15,7 +15,7 @@ use Rattle.bp_trail.specs.Pieces.{by, FixPiece, FlushPiece, DiscardPiece}
 use Rattle.bp_trail.specs.Pieces.Manner.{session}
 use Rattle.bp_trail.specs.Pieces.Outcome.{accepted, refused}
 use Rattle.bp_session_log.specs.Books.{owed}
-use Rattle.bp_session_log.specs.Turns.{ReadIntoSaid}
+use Rattle.bp_session_log.specs.Turns.{ReadIntoSaid, and_read}
 use Rattle.bp_trail.specs.declared.ends.Flushed.{Flushed}
 use Rattle.bp_trail.specs.declared.ends.Discarded.{Discarded}
 use Rattle.bp_core.specs.Added.{Gives, Ends}
@@ -127,6 +127,19 @@ PageReadSaid client page offset before answer bytes said after =
     × ReadAndUnfixSaid client pass offset before answer bytes fixed after)
     ⊎ ((why : Refusal) × (answer ≡ Err why) × FixSaid client page (Err why) said after
     × (bytes ≡ before))
+
+-- one section for it: where the page is in a frame the list gets the three events, and the bytes are
+-- those of the image; if it is in none, or the section is refused, both stay
+abbrev pub LookSaid : ℕ → ℕ → ℕ → List ℕ → Result Bool Refusal → List ℕ → Trail → Trail → Type 0
+LookSaid client page offset before (Ok true) bytes said after =
+    (n : ℕ) × (image : List ℕ) × (after ≡ and_read client page n image said)
+    × (bytes ≡ take (length before) (drop offset image))
+LookSaid client page offset before (Ok false) bytes said after = (after ≡ said) × (bytes ≡ before)
+LookSaid client page offset before (Err refusal.TrailFull) bytes said after =
+    (after ≡ said) × (bytes ≡ before)
+LookSaid client page offset before (Err refusal.OutOfMemory) bytes said after =
+    (after ≡ said) × (bytes ≡ before)
+LookSaid client page offset before (Err _) bytes said after = ⊥
 
 abbrev pub FlushSaid : ℕ → ℕ → Result Flushed Refusal → Trail → Trail → Type 0
 FlushSaid client page (Ok how) said after =

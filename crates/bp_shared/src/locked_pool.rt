@@ -13,6 +13,7 @@ use rtrb::{Consumer, Producer};
 use std::marker::{Model, PhantomData};
 
 mod cut_section;
+mod looking;
 mod observing;
 mod returning;
 mod turns;

@@ -2,7 +2,7 @@
 //! each session.
 ghost use Rattle.std.specs.Prelude.{◌≡◌, ◌∷◌, ◌++◌, [], IfOk, OnErr, length};
 ghost use Rattle.bp_page.specs.declared.refusals.Refusal.TheVariants as Refusal;
-ghost use Rattle.rtrb.specs.Ring.{sent, received};
+ghost use Rattle.rtrb.specs.Ring.{sent, received, known_free, producer_capacity};
 ghost use Rattle.bp_session_log.specs.Rings.{ring_of, ring_at};
 ghost use Rattle.bp_shared.specs.Posting.{AreRings};
 ghost use Rattle.bp_shared.specs.Taking.{IsEmptied};
@@ -128,4 +128,25 @@ pub(crate) fn pass_on(
     let passed = taken.pop_known();
     pieces.slots_beside(taken);
     passed
+}
+
+/// Puts a pass in at the one end of a session's ring, which is empty, and takes it out at the other.
+pub(crate) fn pass_through(
+    producer: &mut Producer<PassNote>,
+    consumer: &mut Consumer<PassNote>,
+    note: PassNote,
+)
+    requires pair { ring_at consumer.old ≡ ring_of producer.old }
+    requires emptied { received consumer.old ≡ sent producer.old }
+    requires free { (producer_capacity producer.old ≡ 32) × (known_free producer.old ≡ 32) }
+    ensures producer { ring_of producer.new ≡ ring_of producer.old }
+    ensures consumer { ring_at consumer.new ≡ ring_at consumer.old }
+    ensures sent { sent producer.new ≡ sent producer.old ++ note ∷ [] }
+    ensures received { received consumer.new ≡ received consumer.old ++ note ∷ [] }
+    ensures free { (producer_capacity producer.new ≡ 32) × (known_free producer.new ≡ 32) }
+{
+    producer.push_reserved(note);
+    consumer.slots_beside(producer);
+    consumer.pop_known();
+    producer.slots_beside(consumer);
 }

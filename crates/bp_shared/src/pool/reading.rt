@@ -3,7 +3,7 @@ ghost use Rattle.std.specs.Prelude.{◌≡◌, ◌≢◌, ◌⊎◌, ◌+◌, �
 ghost use Rattle.bp_trail.specs.declared.entries.Call.TheVariants as Call;
 ghost use Rattle.bp_core.specs.Outcomes.{pass_is_out};
 ghost use Rattle.bp_shared.specs.Sessions.{DoesWorkSaid, IsLong, IsRoomy, IsRoomyFor};
-ghost use Rattle.bp_shared.specs.Sessions.{PageReadSaid, ReadAndUnfixSaid};
+ghost use Rattle.bp_shared.specs.Sessions.{LookSaid, PageReadSaid, ReadAndUnfixSaid};
 ghost use Rattle.bp_shared.specs.Writing.{WithLsnSeen};
 ghost use Rattle.bp_shared.specs.Keeping.{Acted, KeepsSession, FillsRoom, WantsMemory};
 
@@ -20,13 +20,74 @@ use std::sync::Wait;
 impl<N: PartNames, K: ListKeeper> SharedPool<N, K> {
     /// Copies bytes of a page, from the offset on, as many as `into` has. It does what `fix`, `read_into` and giving the
     /// pass back do: the session's list gets the events of the three, in this order, and the session holds no pass more
-    /// than before.
+    /// than before. Where the page is in a frame, all is done in one critical section, with no look at the mark.
     ///
     /// Refused as `fix` is, and then no pass was given; else as `read_into` is, with `TrailFull` or `OutOfMemory`, and
     /// then the pass was given back all the same. Either leaves the bytes that were there. It is never `UnknownPass`. A
     /// silent session that has room for two passes answers `OutOfMemory` as from `fix`, and is roomy after every other
     /// answer.
     pub fn read_page_into<P: Port, R: Wait>(
+        &self,
+        rt: &R,
+        session: &mut Session<N, K>,
+        port: &mut P,
+        page: PageNo,
+        offset: u32,
+        into: &mut [u8],
+    ) -> Result<(), Refusal>
+        requires page_in { page < N.parameters.pages }
+        requires port { (P.geometry_of port.old).size ≡ N.parameters.size }
+        requires fits { offset + length into.old ≤ N.parameters.size }
+        ensures keeps { KeepsSession N.parameters N.past result session.old session.new }
+        ensures port { P.geometry_of port.new ≡ P.geometry_of port.old }
+        ensures outcome { PageReadSaid session.old.client page offset into.old result into.new
+            session.old.said session.new.said }
+        ensures room { result ≡ Err Refusal.TrailFull → FillsRoom 3 N.parameters session.new.seen }
+        ensures memory { K.REFUSES ≡ false → IsRoomyFor 2 session.old
+            → result ≡ Err Refusal.OutOfMemory
+            → IsLong session.new ⊎ WantsMemory (Call.Fix page) N.parameters session.new.seen }
+        ensures roomy { result ≢ Err Refusal.OutOfMemory → IsRoomy session.new }
+        ensures known { result ≢ Err Refusal.UnknownTicket }
+        ensures held { result ≢ Err Refusal.UnknownPass }
+        ensures work { DoesWorkSaid P.read_gives (WithLsnSeen session.old session.new P.write_gives)
+            session.old.said session.new.said port.old port.new }
+    {
+        if self.read_if_resident(rt, session, page, offset, into)? {
+            return Ok(());
+        }
+        self.read_by_pass(rt, session, port, page, offset, into)
+    }
+
+    /// Copies bytes of a page that is in a frame, in one critical section, with no look at the mark. Returns false where
+    /// it is in none, which adds no event. Refused with `TrailFull`, or with `OutOfMemory`, which may come before the
+    /// lock is taken; neither adds one, and both leave the bytes that were there.
+    #[inline(always)]
+    fn read_if_resident<R: Wait>(
+        &self,
+        rt: &R,
+        session: &mut Session<N, K>,
+        page: PageNo,
+        offset: u32,
+        into: &mut [u8],
+    ) -> Result<bool, Refusal>
+        requires page_in { page < N.parameters.pages }
+        requires fits { offset + length into.old ≤ N.parameters.size }
+        ensures keeps { KeepsSession N.parameters N.past result session.old session.new }
+        ensures outcome { LookSaid session.old.client page offset into.old result into.new
+            session.old.said session.new.said }
+        ensures room { result ≡ Err Refusal.TrailFull → FillsRoom 3 N.parameters session.new.seen }
+        ensures memory { K.REFUSES ≡ false → IsRoomyFor 2 session.old
+            → result ≡ Err Refusal.OutOfMemory → IsLong session.new }
+        ensures roomy { result ≢ Err Refusal.OutOfMemory → IsRoomy session.new }
+        ensures roomy_still { result ≡ Ok false → IsRoomyFor 2 session.new }
+    {
+        session.book.reserve(Room::with_passes(2))?;
+        let mut state = self.lock_and_drain(rt, session);
+        state.read_resident(session, page, offset, into)
+    }
+
+    /// Copies bytes of a page by a pass: fixes it, and reads it and gives the pass back in one critical section more.
+    fn read_by_pass<P: Port, R: Wait>(
         &self,
         rt: &R,
         session: &mut Session<N, K>,

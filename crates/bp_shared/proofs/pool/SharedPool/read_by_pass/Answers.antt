@@ -5,7 +5,7 @@ use Rattle.bp_shared.proofs.Acting.{acted, all_more}
 use Rattle.bp_shared.proofs.Fixing.{no_pass_asked}
 use Rattle.bp_shared.proofs.Working.{why-of, read-and-unfix-work}
 use Rattle.bp_shared.proofs.Writing.{work_seen}
-use Rattle.bp_shared.proofs.pool.SharedPool.read_page_into.Goals as goal
+use Rattle.bp_shared.proofs.pool.SharedPool.read_by_pass.Goals as goal
 
 pub returns-in_err-pass-clause-held : goal.returns-in_err-pass-clause-held
 returns-in_err-pass-clause-held g c unknown =
