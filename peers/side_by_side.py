@@ -17,8 +17,8 @@ fixes. Where pages are evicted a second row has no period, beside the same figur
 steady state: eight fixes for each frame come before those that count.
 
 With `threads` it measures 1, 2 and 4 threads over one pool, whose trail is only counted (KIND `silent`), and then cut as
-they go (`recorded`), and over a pool of 1, 4 and 16 parts (or KIND, a number), whose trails are only counted, with as
-many frames in all. Each number is in uses a second of the wall clock, of all threads. The peer is peers/c/bench.c with
+they go (`recorded`), and over a pool of 1, 16 and 64 parts (or KIND, a number), whose trails are only counted, with
+as many frames in all. Each number is in uses a second of the wall clock, of all threads. The peer is peers/c/bench.c with
 DB_THREAD, whose numbers are drawn in the same way. It ends where one use in a hundred is refused here, or where the
 peer hits more or fewer of them than this pool can: all, or where pages are evicted a quarter. Last come the looks that
 empty locks would give over the same lines of memory, by peers/c/locks.c.
@@ -48,14 +48,16 @@ PEER = [
 # The rows of bench_threads for each number of threads: a name, the period in ticks, and what peers/c/bench.c does
 # with how many frames.
 THREADS = (1, 2, 4)
-KINDS = ("silent", "recorded", "1", "4", "16")
+KINDS = ("silent", "recorded", "1", "16", "64")
 USES = [
     ("fix and unfix, 64 hot pages", 32, "nothing", 64),
     ("look, 64 hot pages", 32, "look", 64),
     ("look, 4,096 resident pages", 32, "look", 4096),
+    ("look by one call, 4,096 resident pages", 32, "look", 4096),
     ("update, 4,096 resident pages", 32, "update", 4096),
     ("look, evictions", 32, "evict", 4096),
     ("look, evictions", 0, "evict", 4096),
+    ("look by one call, evictions", 32, "evict", 4096),
 ]
 
 
@@ -112,11 +114,13 @@ def theirs_in_threads(bench, folder):
 
 
 def empty_locks(locks, parts, folder):
-    """The rates of empty locks in so many parts, taken twice for each look, each over one second."""
+    """The rates of empty locks in so many parts, each over one second. They are taken twice for each look, and once for
+    one by one call."""
     rates = []
     for threads in THREADS:
-        for _, _, use, frames in USES:
-            words = [locks, str(frames), parts, "2", "1", str(threads)]
+        for name, _, use, frames in USES:
+            sections = "1" if "by one call" in name else "2"
+            words = [locks, str(frames), parts, sections, "1", str(threads)]
             rates.append(int(said(words, folder)) if use == "look" else None)
     return rates
 
@@ -192,8 +196,8 @@ def main():
     threads = sys.argv[1:2] == ["threads"]
     rounds = int(sys.argv[1 + threads])
     words = sys.argv[2 + threads:]
-    if threads and any(it not in KINDS and not (it.isdigit() and 0 < int(it) and 32 % int(it) == 0) for it in words):
-        sys.exit("side_by_side.py: KIND is `silent`, `recorded`, or a number of parts that divides the period of 32 ticks")
+    if threads and any(it not in KINDS and not (it.isdigit() and 0 < int(it) and 64 % int(it) == 0) for it in words):
+        sys.exit("side_by_side.py: KIND is `silent`, `recorded`, or a number of parts that divides 64")
     with tempfile.TemporaryDirectory(prefix="side-by-side-") as folder:
         mpool, pages = f"{folder}/mpool", f"{folder}/pages.bin"
         subprocess.run(["cc", "-O2", f"{TOP}/peers/mpool.c", "-ldb", "-o", mpool], check=True)

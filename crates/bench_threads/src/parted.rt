@@ -1,5 +1,5 @@
 //! Times client threads over a silent pool in parts: the same uses as over one shared pool, with as many frames in all.
-ghost use Rattle.std.specs.Prelude.{◌≡◌};
+ghost use Rattle.std.specs.Prelude.{◌≡◌, ◌<◌};
 
 use crate::threads::{
     CALLS_A_PART, Caller, FIXES_A_TICK, FRAMES, ROWS, SIZE, THREADS, Use, Work, callers,
@@ -24,6 +24,14 @@ use std::time::{Clock, Duration};
 
 type Own<N> = PartedClient<N, File, SilentKeeper>;
 
+/// The clock of a part moves on once in so many fixes of the part: in 16, and in 8 above 32 parts, where a period of an
+/// eighth of the frames is 8 fixes.
+fn fixes_a_tick(parts: u8) -> u64
+    ensures some { 0 < result }
+{
+    if parts > 32 { FIXES_A_TICK / 2 } else { FIXES_A_TICK }
+}
+
 impl<C: Clock + Drop> Caller<C> {
     /// Uses a page. It is counted if nothing was refused.
     fn parted_call<N: PartNames + PartCount, R: Wait>(
@@ -37,15 +45,23 @@ impl<C: Clock + Drop> Caller<C> {
         let Some(page) = own.page(self.draw()) else {
             return;
         };
+        let mut bytes = [0; 16];
+        if let Use::Read = self.what() {
+            let (session, port) = (&mut own.session, &mut own.port);
+            if pool
+                .read_page_into(rt, session, port, page, 0, &mut bytes)
+                .is_ok()
+            {
+                self.count();
+            }
+            return;
+        }
         let Ok(pass) = pool.fix(rt, &mut own.session, &mut own.port, page) else {
             return;
         };
         let used = match self.what() {
-            Use::Nothing => Ok(()),
-            Use::Look => {
-                let mut bytes = [0; 16];
-                pool.read_into(rt, &mut own.session, &pass, 0, &mut bytes)
-            }
+            Use::Nothing | Use::Read => Ok(()),
+            Use::Look => pool.read_into(rt, &mut own.session, &pass, 0, &mut bytes),
             Use::Update => {
                 let bytes = self.drawn().to_le_bytes();
                 pool.write_from(rt, &mut own.session, &pass, 0, &bytes, Lsn::new(0))
@@ -59,8 +75,7 @@ impl<C: Clock + Drop> Caller<C> {
         }
     }
 
-    /// Makes the calls of a part of the work. The clocks of the pool's parts move on in turn, each once in 16 fixes of
-    /// its part.
+    /// Makes the calls of a part of the work. The clocks of the pool's parts move on in turn.
     fn parted_part<N: PartNames + PartCount, R: Wait>(
         &mut self,
         rt: &R,
@@ -69,9 +84,10 @@ impl<C: Clock + Drop> Caller<C> {
     )
         ensures client { own.new.session.client ≡ own.old.session.client }
     {
+        let fixes = fixes_a_tick(pool.count());
         'calls: for call in 0..CALLS_A_PART {
-            if call % FIXES_A_TICK == 0 {
-                let part = (call / FIXES_A_TICK) % u64::from(pool.count());
+            if call % fixes == 0 {
+                let part = (call / fixes) % u64::from(pool.count());
                 let _ = pool.tick(rt, &mut own.session, part as u8, 1);
             }
             self.parted_call(rt, pool, own);
@@ -116,6 +132,7 @@ fn run<R: Runtime<A = Global> + Clock + Threads + Wait + Send + Sync>(
     let (_, _, period, _) = work;
     let stripe = ports.first().context("no port")?.geometry();
     let count = u64::from(parts).max(1);
+    let period = period * FIXES_A_TICK / fixes_a_tick(parts);
     let config = Config::new(stripe)
         .with_frames(FRAMES / count as usize)
         .with_settings(Settings::new(2, period / count, MAX_PERIOD)?);

@@ -41,6 +41,8 @@ pub(crate) enum Use {
     Nothing,
     /// 16 bytes are looked at.
     Look,
+    /// 16 bytes are looked at, by one call that fixes, reads and unfixes.
+    Read,
     /// 8 bytes are written.
     Update,
 }
@@ -53,13 +55,15 @@ pub(crate) const THREADS: [u64; 3] = [1, 2, 4];
 
 /// Hits of hot pages and of all pages that fit, and pages of which four times as many are used as there are frames, with
 /// a period of an eighth of the frames in fixes and with none.
-pub(crate) const ROWS: [Work; 6] = [
+pub(crate) const ROWS: [Work; 8] = [
     (Use::Nothing, 64, 32, 1024),
     (Use::Look, 64, 32, 1024),
     (Use::Look, 4096, 32, 1024),
+    (Use::Read, 4096, 32, 1024),
     (Use::Update, 4096, 32, 1024),
     (Use::Look, 16384, 32, 256),
     (Use::Look, 16384, 0, 256),
+    (Use::Read, 16384, 32, 256),
 ];
 
 /// A kind of pool, and how its room and the memory of its lists are kept.
@@ -178,15 +182,23 @@ impl<C: Clock + Drop> Caller<C> {
         let Some(page) = own.port.geometry().page(self.draw()) else {
             return;
         };
+        let mut bytes = [0; 16];
+        if let Use::Read = self.what() {
+            let (session, port) = (&mut own.session, &mut own.port);
+            if pool
+                .read_page_into(rt, session, port, page, 0, &mut bytes)
+                .is_ok()
+            {
+                self.count();
+            }
+            return;
+        }
         let Ok(pass) = pool.fix(rt, &mut own.session, &mut own.port, page) else {
             return;
         };
         let used = match self.what() {
-            Use::Nothing => Ok(()),
-            Use::Look => {
-                let mut bytes = [0; 16];
-                pool.read_into(rt, &mut own.session, &pass, 0, &mut bytes)
-            }
+            Use::Nothing | Use::Read => Ok(()),
+            Use::Look => pool.read_into(rt, &mut own.session, &pass, 0, &mut bytes),
             Use::Update => {
                 let bytes = self.drawn().to_le_bytes();
                 pool.write_from(rt, &mut own.session, &pass, 0, &bytes, Lsn::new(0))
@@ -444,20 +456,22 @@ pub(crate) fn time_threads<K: Kind + Tended>(
     Ok(())
 }
 
-/// Has four threads use a pool in memory for a moment, and prints how many uses were not refused.
+/// Has four threads use a pool in memory for a moment, by writes and by reads, and prints how many uses were not refused.
 pub(crate) fn try_threads<K: Kind + Tended>(
     rt: &(impl Runtime<A = Global> + Clock + Threads + Wait + Send + Sync),
 ) -> Result<(), anyhow::Error> {
     let geometry = Geometry::new(64, SIZE)?;
-    let device = MemDevice::new(rt.alloc(), geometry)?;
-    let mut ports = Vec::new(rt.alloc());
-    for _ in 0..4 {
-        ports.push(device.port()?)?;
+    for what in [Use::Update, Use::Read] {
+        let device = MemDevice::new(rt.alloc(), geometry)?;
+        let mut ports = Vec::new(rt.alloc());
+        for _ in 0..4 {
+            ports.push(device.port()?)?;
+        }
+        let (done, _) = run::<K, _, _>(rt, ports, geometry, (what, 64, 32, 4))?;
+        println!(rt;
+            "4 threads over a {} pool: {done} of 16384 uses were not refused",
+            K::name()
+        )?;
     }
-    let (done, _) = run::<K, _, _>(rt, ports, geometry, (Use::Update, 64, 32, 4))?;
-    println!(rt;
-        "4 threads over a {} pool: {done} of 16384 uses were not refused",
-        K::name()
-    )?;
     Ok(())
 }

@@ -28,6 +28,17 @@ pub record FixesIn (refuses : Bool) (c : Parameters) (start : Trail) (page : ℕ
   pub roomy : given ≢ Err refusal.OutOfMemory → IsRoomy new
   pub known : given ≢ Err refusal.UnknownTicket
 
+-- a read of bytes of that page, but for what it answers
+pub record PageReadsIn {A : Type 0} (refuses : Bool) (c : Parameters) (start : Trail) (page : ℕ)
+    (given : Result A Refusal) (old new : SessionValue) : Type 0 where
+  pub keeps : KeepsSession c start given old new
+  pub room : given ≡ Err refusal.TrailFull → FillsRoom 3 c new.seen
+  pub memory : refuses ≡ false → IsRoomyFor 2 old → given ≡ Err refusal.OutOfMemory
+      → IsLong new ⊎ WantsMemory (call.Fix page) c new.seen
+  pub roomy : given ≢ Err refusal.OutOfMemory → IsRoomy new
+  pub known : given ≢ Err refusal.UnknownTicket
+  pub held : given ≢ Err refusal.UnknownPass
+
 -- a flush of it
 pub record FlushesIn (refuses : Bool) (c : Parameters) (start : Trail) (page : ℕ)
     (given : Result Flushed Refusal) (old new : SessionValue) : Type 0 where

@@ -49,11 +49,11 @@ impl<N: PartNames + PartCount, K: ListKeeper> PartedPool<N, K> {
     ghost use Rattle.bp_page.specs.declared.refusals.Refusal.TheVariants as Refusal;
     ghost use Rattle.bp_session_log.specs.Turns.{ReadIntoSaid, WriteSaid};
     ghost use Rattle.bp_core.specs.Work.{MadeBlank};
-    ghost use Rattle.bp_shared.specs.Sessions.{DoesWorkSaid};
+    ghost use Rattle.bp_shared.specs.Sessions.{DoesWorkSaid, PageReadSaid};
     ghost use Rattle.bp_shared.specs.Writing.{WithLsnSeen};
     ghost use Rattle.bp_ports.specs.Stripes.{ReadsStriped, WritesStriped, turned};
     ghost use Rattle.bp_parts.specs.Parts.{AreNumbered, InPart, OfPart, UnfixedIn, part_of, page_in_part};
-    ghost use Rattle.bp_parts.specs.Calls.{DiscardsIn, FixesIn, FlushesIn, LooksIn, PurgesIn, ReadsIn, TicksIn};
+    ghost use Rattle.bp_parts.specs.Calls.{DiscardsIn, FixesIn, FlushesIn, LooksIn, PageReadsIn, PurgesIn, ReadsIn, TicksIn};
 
     /// Takes the parts, in order, which are 1 to 64.
     pub fn new(parts: Vec<SharedPool<N, K>>) -> PartedPool<N, K>
@@ -180,6 +180,39 @@ impl<N: PartNames + PartCount, K: ListKeeper> PartedPool<N, K> {
             Ok(pass) => Ok(PartPass { part, pass }),
             Err(refusal) => Err(refusal),
         }
+    }
+
+    /// Copies bytes of a page of the file, as `SharedPool::read_page_into` does in its part: a fix, a read and an unfix.
+    /// Where the page is in a frame, that part's lock is taken once, and the port is asked nothing.
+    #[inline(always)]
+    pub fn read_page_into<S: Store, R: Wait>(
+        &self,
+        rt: &R,
+        session: &mut PartedSession<N, K>,
+        port: &mut StripedPort<S>,
+        page: PageNo,
+        offset: u32,
+        into: &mut [u8],
+    ) -> Result<(), Refusal>
+        requires page_in { page < N.parts * N.parameters.pages }
+        requires stripes { port.old.parts ≡ N.parts }
+        requires size { port.old.file.device.size ≡ N.parameters.size }
+        requires fits { offset + length into.old ≤ N.parameters.size }
+        ensures client { session.new.client ≡ session.old.client }
+        ensures device { port.new.file.device ≡ port.old.file.device }
+        ensures stripes { port.new.parts ≡ port.old.parts }
+        ensures outcome { InPart (part_of N.parts page) session.old session.new (λ old new.
+            PageReadsIn K.REFUSES N.parameters N.past (page_in_part N.parts page) result old new
+            × PageReadSaid old.client (page_in_part N.parts page) offset into.old result into.new
+            old.said new.said
+            × DoesWorkSaid (ReadsStriped S.reads) (WithLsnSeen old new (WritesStriped S.writes))
+            old.said new.said (turned (part_of N.parts page) port.old) port.new) }
+    {
+        let (part, page) = self.place(page);
+        port.turn_to(u64::from(part));
+        let mine = &mut session.sessions[part as usize];
+        self.pool_of(mine)
+            .read_page_into(rt, mine, port, page, offset, into)
     }
 
     /// Gives a pass back in its part, as `SharedPool::unfix` does, and refused as there: no lock is taken. A pass of a
