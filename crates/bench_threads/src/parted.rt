@@ -29,7 +29,11 @@ type Own<N> = PartedClient<N, File, SilentKeeper>;
 fn fixes_a_tick(parts: u8) -> u64
     ensures some { 0 < result }
 {
-    if parts > 32 { FIXES_A_TICK / 2 } else { FIXES_A_TICK }
+    if parts > 32 {
+        FIXES_A_TICK / 2
+    } else {
+        FIXES_A_TICK
+    }
 }
 
 impl<C: Clock + Drop> Caller<C> {
