@@ -50,12 +50,6 @@ module _ (c : Parameters) (trail : Kept) (x : State) (core : IsCore c trail x) (
   pub pinned-page : (who p n : ℕ) → EachPast v (λ past. is_out (grant who p n) (passes_out past) ≡ true) → resident trail.past p ≡ true
   pinned-page who p n known = (places c trail.past core.agrees.legal).pinned p (out-of_page who p n (passes_out trail.past) (at (λ q past. is_out (grant who p n) (passes_out past) ≡ true) known))
 
-  -- so it is no candidate, and there is room for it
-  pub no-candidate : (who p n : ℕ) → EachPast v (λ past. is_out (grant who p n) (passes_out past) ≡ true) → entry_of x.frames.candidates p ≡ None
-  no-candidate who p n known =
-      let some = some-count (is_of p) (passes_out trail.past) (out-of_page who p n (passes_out trail.past) (at (λ q past. is_out (grant who p n) (passes_out past) ≡ true) known)) in
-      core.candidates.entries_are p ∙ no-entry c trail.past trail.past p (ap (λ b. b && ((pins trail.past p == 0) && not (writing trail.past p))) (pinned-page who p n known) ∙ ap (λ b. b && not (writing trail.past p)) (ne_eqb (pins trail.past p) 0 (λ i. absurd (omega (arith, i, some)))))
-
   pub frame-here : (who p n : ℕ) → EachPast v (λ past. is_out (grant who p n) (passes_out past) ≡ true) → some (is_frame_of p) x.frames.frames ≡ true
   frame-here who p n known = resident_seen c trail.past (parts_of x) core.agrees p ∙ pinned-page who p n known
 

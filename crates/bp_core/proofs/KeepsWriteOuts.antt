@@ -80,15 +80,6 @@ module _ (c : Parameters) (trail : Kept) (x : State) (core : IsCore c trail x) (
     pub here-now : EachPast v (λ past. resident past p ≡ false) → ⊥
     here-now away = true≢false (sym (stays c trail.past core.agrees.legal p (out-of_page who p t (writes_out trail.past) out-now)) ∙ at (λ q past. resident past p ≡ false) away)
 
-    -- so it is no candidate, and there is room for it
-    pub no-candidate : entry_of x.frames.candidates p ≡ None
-    no-candidate = core.candidates.entries_are p ∙ no-entry c trail.past trail.past p (ap (λ b. resident trail.past p && ((pins trail.past p == 0) && not b)) (out-of_page who p t (writes_out trail.past) out-now) ∙ none (resident trail.past p) (pins trail.past p == 0))
-      where
-        none : (a b : Bool) → (a && (b && false)) ≡ false
-        none true true = refl
-        none true false = refl
-        none false b = refl
-
     pub frame-here : some (is_frame_of p) x.frames.frames ≡ true
     frame-here = resident_seen c trail.past (parts_of x) core.agrees p ∙ stays c trail.past core.agrees.legal p (out-of_page who p t (writes_out trail.past) out-now)
 

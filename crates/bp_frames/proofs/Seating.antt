@@ -85,13 +85,6 @@ module _ (size capacity : ℕ) (slots : List Frame) (ws empty_frames : List ℕ)
   own-entry : (e : Candidate) → seat_at seats slot ≡ Some e → e.2 ≡ page
   own-entry e is = one-page size capacity slots ws empty_frames t e.2 page slot (s.own slot e is) here
 
-  pub seat-empty : find_entry (seated_in seats) page ≡ None → seat_at seats slot ≡ None
-  seat-empty none = go (seat_at seats slot) refl
-    where
-      go : (o : Option Candidate) → seat_at seats slot ≡ o → seat_at seats slot ≡ None
-      go None is = is
-      go (Some e) is = absurd (none-some (e.0, e.1) (sym none ∙ ap (find_entry (seated_in seats)) (sym (own-entry e is)) ∙ entry-at capacity ws seats s slot e is))
-
   pub seating-entered : (h l : ℕ) → IsSeating capacity ws (set seats slot (Some (h, l, page)))
   seating-entered h l = record {
     seats_is = length-set seats slot (Some (h, l, page)) ∙ s.seats_is;

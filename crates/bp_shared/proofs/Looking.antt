@@ -72,9 +72,6 @@ module _ {A : Type 0} (reads : Reads A) (writes : Writes A) where
   refusal_work client page offset before refusal.OutOfMemory bytes said after port h = record { piece = []; grows = h.0; through = refl }
   refusal_work client page offset before _ bytes said after port h = absurd h
 
-pub resident_full : (core after : CoreView) (client page offset : ℕ) (before bytes : List ℕ) (r : Result (Option Grant) Refusal) → ReadResidentOutcome core client page offset before r bytes after → r ≡ Err refusal.TrailFull → Full 3 core after
-resident_full core after client page offset before bytes r h is = let no = subst (λ x. ReadResidentOutcome core client page offset before x bytes after) is h in (no.0, no.2)
-
 -- ---- which entries came
 module _ (client page offset : ℕ) (before : List ℕ) (g : Grant) (bytes : List ℕ) (core left : CoreView) (book kept : BookValue) (a : AddsPiece core book left kept) (t : ReadResidentTurn client page offset before (Ok (Some g)) bytes book.said kept.said) where
   abbrev fix : Entry
@@ -108,11 +105,6 @@ module _ (client page offset : ℕ) (before : List ℕ) (g : Grant) (bytes : Lis
       let out : is_out given (passes_out mid) ≡ true = ap (λ b. b || is_out given (passes_out core.past)) (itself given) in
       subst (IsPosted names start (set rings at v)) (sym (a.goes_on ∙ ap (λ es. es ++ core.past) piece_is))
       (posted_one names start rings mid (and_read client page g.serial t.0 core.past) at v d (given ∷ []) more below name (received ∙ ap (λ x. (get_or rings at d).received ++ x ∷ []) t.1) (next_taken given none_taken (sym is) out))
-
-  pub look_sent : (had has : List Grant) → had ≡ reverse (unfixes book.said) → has ≡ had ++ g ∷ [] → has ≡ reverse (unfixes kept.said)
-  look_sent had has are more =
-      more ∙ ap (λ gs. gs ++ g ∷ []) are ∙ ap (λ x. reverse (unfixes book.said) ++ x ∷ []) t.1 ∙ sym (reverse-append (grant client page g.serial ∷ []) (unfixes book.said))
-      ∙ ap (λ (es : Trail). reverse (unfixes es)) (sym t.2)
 
 -- ---- in a section all that the session posted came out of its ring
 pub all_came_out : (names : List RingName) (start : Trail) (rings : List RingView) (past : Trail) (client at : ℕ) (d : RingView) (said : Trail) (got went : List Grant) → IsPosted names start rings past → IsListOf start past client said → at < length rings → at ≡ client → got ≡ (get_or rings at d).received

@@ -1,5 +1,5 @@
 -- What the locked state and a session's list have in common.
-use Rattle.std.specs.Prelude.{◌≡◌, ℕ, ◌<◌, ◌≤◌, List, ◌++◌, ◌⊎◌, Result, Ok, IsErr}
+use Rattle.std.specs.Prelude.{◌≡◌, ℕ, ◌≤◌, List, ◌++◌, ◌⊎◌, Result, Ok, IsErr}
 use Rattle.bp_page.specs.declared.refusals.Refusal.{Refusal}
 use Rattle.bp_mark.specs.Marks.{MarkName, ReaderValue}
 use Rattle.bp_trail.specs.Parameters.{Parameters}
@@ -47,29 +47,26 @@ pub record IsLocked (mark : MarkName) (parameters : Parameters) (core : CoreView
   pub parameters_are : core.parameters ≡ parameters
   pub seen : durable core.past ≤ reader.seen
 
--- where some ring was to be asked, the rings were drained, and nothing else was done; where none was,
--- nothing at all
-pub record Drained (asked : ℕ) (old new : LockedValue) : Type 0 where
+-- the rings were drained, and nothing else was done
+pub record Drained (old new : LockedValue) : Type 0 where
   pub part : new.part ≡ old.part
   pub parameters : new.core.parameters ≡ old.core.parameters
   pub before : new.core.before ≡ old.core.before
   pub seen : new.seen ≡ old.seen
   pub ends : new.ends ≡ old.ends
-  pub left : asked ≡ 0 → new ≡ old
-  pub drained : 0 < asked → DrainsRings 32 0 old.rings new.rings old.core.past new.core.past
+  pub drained : DrainsRings 32 0 old.rings new.rings old.core.past new.core.past
 
 -- the rings were drained, and nothing was done since
 abbrev pub IsDrained : LockedValue → Type 0
-IsDrained state = (was : LockedValue) × (asked : ℕ) × (0 < asked) × Drained asked was state
+IsDrained state = (was : LockedValue) × Drained was state
 
--- a section of a session has begun: the rings that were to be asked were drained, then the session's
--- own, with both its ends at hand; so the trail's entries of the client are the session's list, and its ring is
+-- a section of a session has begun: the rings were drained, then the session's own once more, with
+-- both its ends at hand; so the trail's entries of the client are the session's list, and its ring is
 -- empty. Both are of one pool
 pub record Enters (start : Trail) (session : SessionValue) (state : LockedValue) : Type 0 where
   pub was : LockedValue
   pub mid : LockedValue
-  pub asked : ℕ
-  pub drained : Drained asked was mid
+  pub drained : Drained was mid
   pub takes : TakesBack session.client mid.core state.core
   pub legal : Legal state.core.parameters state.core.past
   pub list_is : IsListOf start state.core.past session.client session.said

@@ -129,14 +129,9 @@ impl<N: PartNames, K: ListKeeper> LockedPool<N, K> {
 
     /// Drains each ring that is to be asked, bit c for that of client c, and each in which a pass is known to wait, the
     /// first client's first, at most 32 passes each. A pass that is not that client's, or not out, stays in its ring.
-    /// Where none is to be asked it looks at none: the clients' ends lie side by side, and each client writes to its own.
-    #[inline(always)]
     pub(crate) fn drain(&mut self, asked: u64)
-        ensures { Drained asked self.old self.new }
+        ensures { Drained self.old self.new }
     {
-        if asked == 0 {
-            return;
-        }
         drain_all(&mut self.core, &mut self.consumers, asked);
     }
 

@@ -67,6 +67,8 @@ impl<K: Keeper> PoolCore<K> {
         ensures held { IfSome result (λ image. EachPast self.now
             (λ past. image.now ≡ held past page)) }
         ensures size { IfSome result (λ image. length image.now ≡ self.now.parameters.size) }
+        ensures here { IfSome result (λ image. EachPast self.now
+            (λ past. resident past page ≡ true)) }
         ensures away { IfNone result (EachPast self.now (λ past. resident past page ≡ false)) }
     {
         let slot = self.state.frames.find(page)?;

@@ -8,7 +8,7 @@ use Rattle.bp_core.proofs.Seen.{frame_in}
 use Rattle.bp_trail.specs.Event.{grant}
 use Rattle.bp_core.proofs.Keeps.{adds, write-seen}
 use Rattle.bp_core.proofs.Uses.{found, told-after}
-use Rattle.bp_core.proofs.KeepsWriteOuts.{no-candidate, frame-here, idle-after, keeps-cleaned, keeps-still_dirty}
+use Rattle.bp_core.proofs.KeepsWriteOuts.{frame-here, idle-after, keeps-cleaned, keeps-still_dirty}
 use Rattle.bp_core.proofs.pool.PoolCore.end_write_out.Goals as goal
 
 pub frame-requires : goal.frame-requires

@@ -5,7 +5,7 @@ use Rattle.bp_trail.specs.declared.entries.Reply.TheVariants.{WriteFailed}
 use Rattle.bp_trail.specs.Event.{grant}
 use Rattle.bp_core.proofs.Keeps.{adds, write-seen}
 use Rattle.bp_core.proofs.Uses.{found, told-after}
-use Rattle.bp_core.proofs.KeepsWriteOuts.{no-candidate, frame-here, idle-after, keeps-fail_write_out}
+use Rattle.bp_core.proofs.KeepsWriteOuts.{frame-here, idle-after, keeps-fail_write_out}
 use Rattle.bp_core.proofs.pool.PoolCore.fail_write_out.Goals as goal
 
 pub unwrap-slot-requires : goal.unwrap-slot-requires

@@ -22,3 +22,8 @@ returns-clause-size g c =
     ap (λ (f : Frame). length f.image) (frame_in _ _ _ c.self.invariant.agrees c.args.page c.frame.result.now c.frame.ensures.here at)
     ∙ sized _ _ c.self.invariant.agrees.legal c.args.page (here_in _ _ _ c.self.invariant.agrees c.args.page c.frame.result.now c.frame.ensures.here at)
     ∙ ap (λ (v : CoreView). v.parameters.size) c.self.view_is
+
+pub returns-clause-here : goal.returns-clause-here
+returns-clause-here g c =
+    ap (λ v. resident v.past c.args.page) (sym c.self.view_is)
+    ∙ here_in _ _ _ c.self.invariant.agrees c.args.page c.frame.result.now c.frame.ensures.here (c.frame.ensures.page ∙ c.in_ok-slot.ensures.found.1)

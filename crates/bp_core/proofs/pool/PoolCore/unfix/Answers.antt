@@ -9,7 +9,7 @@ use Rattle.bp_trail.specs.Legal.{is_out}
 use Rattle.bp_core.proofs.Seen.{some_pins}
 use Rattle.bp_core.proofs.Keeps.{at-past, adds, pass-seen}
 use Rattle.bp_core.proofs.Uses.{found, told-after}
-use Rattle.bp_core.proofs.KeepsPasses.{no-candidate, frame-here, last-pass, keeps-unfix}
+use Rattle.bp_core.proofs.KeepsPasses.{frame-here, last-pass, keeps-unfix}
 use Rattle.bp_core.proofs.pool.PoolCore.unfix.Goals as goal
 
 pub unwrap-slot-requires : goal.unwrap-slot-requires
