@@ -16,12 +16,12 @@ K is 2, and the correlated period is an eighth of the frames in fixes; it is tol
 fixes. Where pages are evicted a second row has no period, beside the same figures of Berkeley DB. Each pool is in its
 steady state: eight fixes for each frame come before those that count.
 
-With `threads` it measures 1, 2 and 4 threads over one pool, whose trail is only counted (KIND `silent`), and then cut as
-they go (`recorded`), and over a pool of 1, 16 and 64 parts (or KIND, a number), whose trails are only counted, with
-as many frames in all. Each number is in uses a second of the wall clock, of all threads. The peer is peers/c/bench.c with
-DB_THREAD, whose numbers are drawn in the same way. It ends where one use in a hundred is refused here, or where the
-peer hits more or fewer of them than this pool can: all, or where pages are evicted a quarter. Last come the looks that
-empty locks would give over the same lines of memory, by peers/c/locks.c.
+With `threads` it measures 1, 2 and 4 threads over one pool, whose trail is only counted (KIND `silent`), and then cut
+as they go (`recorded`), and over a pool of 1, 16 and 64 parts (or KIND, a number), whose trails are only counted, with
+as many frames in all. Each number is in uses a second of the wall clock, of all threads. The peer is peers/c/bench.c
+with DB_THREAD, whose numbers are drawn in the same way. It ends where one use in a hundred is refused here, or where
+the peer hits more or fewer of them than this pool can: all, or where pages are evicted a quarter. Last come the looks
+that empty locks would give over the same lines of memory, by peers/c/locks.c.
 """
 import os
 import re
