@@ -136,7 +136,7 @@ fn run<R: Runtime<A = Global> + Clock + Threads + Wait + Send + Sync>(
     let (_, _, period, _) = work;
     let stripe = ports.first().context("no port")?.geometry();
     let count = u64::from(parts).max(1);
-    let period = period * FIXES_A_TICK / fixes_a_tick(parts);
+    let period = period.saturating_mul(FIXES_A_TICK) / fixes_a_tick(parts);
     let config = Config::new(stripe)
         .with_frames(FRAMES / count as usize)
         .with_settings(Settings::new(2, period / count, MAX_PERIOD)?);
