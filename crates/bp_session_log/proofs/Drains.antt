@@ -1,13 +1,15 @@
 -- Passes that come out of rings.
-use Rattle.std.proofs.Common.{◌≡◌, refl, sym, ap, subst, ◌∙◌, ℕ, suc, ◌+◌, ◌≤◌, ◌<◌, List, [], ◌∷◌, ◌++◌, length, map, take, drop, set, get_or, reverse, append_assoc, add-one, length-take-le, arith}
+use Rattle.std.proofs.Common.{◌≡◌, refl, sym, ap, subst, ◌∙◌, Bool, true, false, ◌&&◌, IsTrue, ℕ, zero, suc, ◌+◌, ◌≤◌, ◌<◌, List, [], ◌∷◌, ◌++◌, length, map, take, drop, set, get_or, reverse, append_assoc, add-one, length-take-le, arith}
 use Rattle.std.proofs.Math.ListN.{get_or-map}
 use Rattle.std.proofs.Math.Seq.{take-suc, take-suc-set}
+use Rattle.std.proofs.lemmas.Bool.{false≢true}
+use Rattle.std.proofs.lemmas.List.Elements.{All-nil, All-cons, All-append, All-head, All-tail}
 use Rattle.std.proofs.lemmas.List.{append-nil, reverse-append, length-map, map-set, drop_more, drop-set-lt}
 use mathlib.Core.List.{IsPrefix}
 use Rattle.bp_trail.specs.Event.{Grant}
 use Rattle.bp_trail.specs.Trail.{Trail}
 use Rattle.bp_trail.specs.Clock.{durable}
-use Rattle.bp_session_log.specs.Rings.{GoBack, RingView, IsNotOut, IsStopped, TakesFront, DrainsKnown, DrainsRing, DrainsRings}
+use Rattle.bp_session_log.specs.Rings.{GoBack, RingView, IsNotOut, IsStopped, TakesFront, DrainsKnown, DrainsRing, DrainsRings, NoneWaits}
 use Rattle.bp_session_log.specs.Rings.GoBack.{none_taken, next_taken}
 use Rattle.bp_session_log.specs.Rings.DrainsRings.{none_left, next_ring}
 
@@ -112,6 +114,31 @@ rings_next view most i old now d y begin end after in_old in_now so_far left rin
 
     rest : drop (i + 1) (map view (set now i y)) ≡ drop (i + 1) a
     rest = ap (drop (i + 1)) (map-set view now i y) ∙ drop-set-lt (i + 1) b i (view y) (omega arith) ∙ sym (ap (drop 1) from_here)
+
+pub both_hold : (a b : Bool) → IsTrue (a && b) → IsTrue a × IsTrue b
+both_hold true b is = (refl, is)
+both_hold false b is = absurd (false≢true is)
+
+-- rings in which no pass is known to wait, one more at a time
+pub quiet_next : {X : Type 0} (view : X → RingView) (i : ℕ) (now : List X) (y : X) → i < length now → NoneWaits (take i (map view now)) → (view y).waiting ≡ [] → NoneWaits (take (i + 1) (map view (set now i y)))
+quiet_next view i now y in_now quiet none =
+    subst NoneWaits (sym news) (All-append (λ (r : RingView). r.waiting ≡ []) (take i (map view now)) (view y ∷ []) quiet (All-cons (λ (r : RingView). r.waiting ≡ []) (view y) [] none (All-nil (λ (r : RingView). r.waiting ≡ []))))
+  where
+    news : take (i + 1) (map view (set now i y)) ≡ take i (map view now) ++ view y ∷ []
+    news = ap (take (i + 1)) (map-set view now i y) ∙ ap (λ n. take n (set (map view now) i (view y))) (add-one i) ∙ take-suc-set (map view now) i (view y) (subst (λ n. i < n) (sym (length-map now view)) in_now)
+
+-- one of the rings changed, and shows no pass
+pub quiet_set : {X : Type 0} (view : X → RingView) (i : ℕ) (xs : List X) (y : X) → NoneWaits (map view xs) → (view y).waiting ≡ [] → NoneWaits (map view (set xs i y))
+quiet_set view i [] y quiet none = quiet
+quiet_set view zero (x ∷ xs) y quiet none = All-cons (λ (r : RingView). r.waiting ≡ []) (view y) (map view xs) none (All-tail (λ (r : RingView). r.waiting ≡ []) (view x) (map view xs) quiet)
+quiet_set view (suc i) (x ∷ xs) y quiet none =
+    All-cons (λ (r : RingView). r.waiting ≡ []) (view x) (map view (set xs i y)) (All-head (λ (r : RingView). r.waiting ≡ []) (view x) (map view xs) quiet) (quiet_set view i xs y (All-tail (λ (r : RingView). r.waiting ≡ []) (view x) (map view xs) quiet) none)
+
+-- where no pass is known to wait, nothing is left to drain
+pub quiet_drained : (most client : ℕ) (rings : List RingView) (past : Trail) → NoneWaits rings → DrainsRings most client rings rings past past
+quiet_drained most client [] past quiet = none_left
+quiet_drained most client (r ∷ rings) past quiet =
+    next_ring (drains_none client most r past (ap length (All-head (λ (r : RingView). r.waiting ≡ []) r rings quiet))) (quiet_drained most (suc client) rings past (All-tail (λ (r : RingView). r.waiting ≡ []) r rings quiet))
 
 -- the passes that went back leave what is durable
 pub go_back_durable : (client : ℕ) (start : Trail) (taken : List Grant) (past : Trail) → GoBack client start taken past → durable past ≡ durable start

@@ -1,5 +1,5 @@
 -- Passes that went back: those that a locked core took from a ring.
-use Rattle.std.specs.Prelude.{◌≡◌, ◌≢◌, ◌⊎◌, ℕ, suc, ◌≤◌, ◌<◌, Bool, true, false, List, [], ◌∷◌, ◌++◌, length, reverse}
+use Rattle.std.specs.Prelude.{◌≡◌, ◌≢◌, ◌⊎◌, ℕ, suc, ◌≤◌, ◌<◌, Bool, true, false, List, [], ◌∷◌, ◌++◌, length, reverse, All}
 use denote.RawPtr.{Ptr, null_ptr}
 use Rattle.rtrb.specs.declared.producer.Producer.{Producer}
 use Rattle.rtrb.specs.declared.consumer.Consumer.{Consumer}
@@ -35,6 +35,10 @@ pub record RingView : Type 0 where
 abbrev pub ring_view : {A P : Type 0} → Consumer Grant A P → RingView
 ring_view ring =
     record { name = ring_at ring; received = received ring; waiting = known_items ring }
+
+-- in none of the rings a pass is known to wait
+abbrev pub NoneWaits : List RingView → Type 0
+NoneWaits rings = All (λ (r : RingView). r.waiting ≡ []) rings
 
 -- the pass is not the client's, or not out
 abbrev pub IsNotOut : ℕ → Trail → Grant → Type 0

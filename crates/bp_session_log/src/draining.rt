@@ -1,8 +1,8 @@
 //! `drain_all`: gives back to a core the passes that clients posted by their rings.
-ghost use Rattle.std.specs.Prelude.{◌≡◌, ◌<◌, map, length, true, IsTrue};
+ghost use Rattle.std.specs.Prelude.{◌≡◌, ◌<◌, [], map, length, true, IsTrue};
 ghost use Rattle.rtrb.specs.Ring.{known_items};
 ghost use Rattle.bp_trail.specs.Clock.{durable};
-ghost use Rattle.bp_session_log.specs.Rings.{FrontGoesBack, ring_view, DrainsKnown, DrainsRing, DrainsRings};
+ghost use Rattle.bp_session_log.specs.Rings.{FrontGoesBack, ring_view, DrainsKnown, DrainsRing, DrainsRings, NoneWaits};
 
 use bp_core::{Keeper, PassNote, PoolCore};
 use rtrb::Consumer;
@@ -66,42 +66,52 @@ pub fn drain_known<K: Keeper>(
 }
 
 /// Gives back at most 32 of the passes that wait in a client's ring, if the ring is to be asked, or a pass is known to
-/// wait in it.
+/// wait in it. Returns whether no pass is known to wait in it then.
 fn drain<K: Keeper>(
     core: &mut PoolCore<K>,
     client: usize,
     consumer: &mut Consumer<PassNote>,
     is_asked: bool,
-)
+) -> bool
     ensures parameters { core.new.parameters ≡ core.old.parameters }
     ensures before { core.new.before ≡ core.old.before }
     ensures drained { DrainsRing 32 client (ring_view consumer.old) (ring_view consumer.new)
         core.old.past core.new.past }
+    ensures quiet { IsTrue result → known_items consumer.new ≡ [] }
 {
     if !is_asked && consumer.cached_slots() == 0 {
-        return;
+        return true;
     }
     consumer.slots();
     drain_known(core, client, consumer, RING);
+    consumer.cached_slots() == 0
 }
 
 /// Drains each ring that is to be asked, and each in which a pass is known to wait, the first client's first, at most
 /// 32 passes each. Bit c of the word stands for the ring of client c. A pass leaves its ring only as it goes back to
 /// the core: one that is not that client's, or that is not out, stays there, with those behind it. It takes no memory.
+///
+/// Returns true only if no pass is known to wait in a ring any more. Then a call that asks no ring would find nothing,
+/// and its caller can leave it out, with a look at each client's end: the ends lie side by side, and each client writes
+/// to its own.
 pub fn drain_all<K: Keeper>(
     core: &mut PoolCore<K>,
     consumers: &mut Vec<Consumer<PassNote>>,
     asked: u64,
-)
+) -> bool
     ensures parameters { core.new.parameters ≡ core.old.parameters }
     ensures before { core.new.before ≡ core.old.before }
     ensures drained { DrainsRings 32 0 (map ring_view consumers.old.items)
         (map ring_view consumers.new.items) core.old.past core.new.past }
     ensures durable { durable core.new.past ≡ durable core.old.past }
+    ensures quiet { IsTrue result → NoneWaits (map ring_view consumers.new.items) }
 {
     let mut word = asked;
+    let mut is_quiet = true;
     for client in 0..consumers.len() {
-        drain(core, client, &mut consumers[client], word % 2 == 1);
+        let is_empty = drain(core, client, &mut consumers[client], word % 2 == 1);
+        is_quiet = is_quiet & is_empty;
         word /= 2;
     }
+    is_quiet
 }

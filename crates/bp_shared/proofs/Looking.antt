@@ -1,6 +1,6 @@
 -- A page that is read at once: its three entries in the trail, in the list and in the session's ring.
-use Rattle.std.proofs.Common.{◌≡◌, ◌⊎◌, refl, sym, ap, subst, ◌∙◌, ℕ, ◌<◌, true, ◌||◌, List, [], ◌∷◌, ◌++◌, length, reverse, get_or, set, All, Option, Some, Result, Ok, Err, inl, inr}
-use Rattle.std.proofs.lemmas.List.{reverse-append, reverse-reverse, append_cancel_right}
+use Rattle.std.proofs.Common.{◌≡◌, ◌⊎◌, refl, sym, ap, subst, ◌∙◌, ℕ, ◌<◌, true, ◌||◌, List, [], ◌∷◌, ◌++◌, length, reverse, get_or, set, All, Some, Ok, Err, inl, inr}
+use Rattle.std.proofs.lemmas.List.{reverse-reverse, append_cancel_right}
 use Rattle.std.proofs.lemmas.List.Elements.{All-nil, All-cons}
 use Rattle.bp_page.specs.declared.refusals.Refusal.{Refusal}
 use Rattle.bp_page.specs.declared.refusals.Refusal.TheVariants as refusal
@@ -16,7 +16,6 @@ use Rattle.bp_trail.specs.Pieces.FixPiece.{hit, no_room, no_memory}
 use Rattle.bp_trail.specs.Trail.{Trail}
 use Rattle.bp_core.specs.CoreView.{CoreView}
 use Rattle.bp_core.specs.declared.passes.Pass.{Pass}
-use Rattle.bp_core.specs.Outcomes.{ReadResidentOutcome}
 use Rattle.bp_core.specs.Work.{Reads, Writes}
 use Rattle.bp_session_log.specs.Books.{AddsPiece, BookValue, unfixes}
 use Rattle.bp_session_log.specs.Rings.{RingName, RingView}
@@ -27,7 +26,6 @@ use Rattle.bp_shared.specs.Sessions.{DoesWorkSaid, LookSaid, PageReadSaid}
 use Rattle.bp_shared.specs.Telling.{IsListOf}
 use Rattle.bp_shared.proofs.Owning.{itself}
 use Rattle.bp_shared.proofs.Posting.{posted_more, posted_one, came_back}
-use Rattle.bp_shared.proofs.Refusing.{Full}
 use Rattle.bp_shared.proofs.Telling.{Adds}
 
 -- ---- what it says

@@ -1,5 +1,8 @@
 //! `LockedPool`: the core, its reader of the mark, and the ends of the rings at which passes come out, all under one
 //! lock.
+ghost use Rattle.std.specs.Prelude.{◌≡◌, true, map};
+ghost use Rattle.bp_session_log.specs.Rings.{NoneWaits, ring_view};
+
 use crate::names::PartNames;
 use crate::session::{Past, Session, Told};
 use crate::taker::Taker;
@@ -28,6 +31,8 @@ pub(crate) struct LockedPool<N: PartNames, K: ListKeeper> {
     reader: Reader,
     /// The ring of each client.
     consumers: Vec<Consumer<PassNote>>,
+    /// True only if no pass is known to wait in a ring.
+    is_quiet: bool,
     /// The number of ends of device work, modulo 2^64.
     ends: u64,
     /// The ring's end at which pieces of the trail go in.
@@ -37,6 +42,7 @@ pub(crate) struct LockedPool<N: PartNames, K: ListKeeper> {
     /// The trail as each session saw it last.
     seen: Board,
     of: PhantomData<N>,
+    ghost quiet: { is_quiet ≡ true → NoneWaits (map ring_view consumers.items) },
 }
 
 impl<N: PartNames, K: ListKeeper> Model for LockedPool<N, K> {
@@ -107,6 +113,7 @@ impl<N: PartNames, K: ListKeeper> LockedPool<N, K> {
             core,
             reader,
             consumers,
+            is_quiet: false,
             ends: 0,
             pieces,
             board,
@@ -129,10 +136,16 @@ impl<N: PartNames, K: ListKeeper> LockedPool<N, K> {
 
     /// Drains each ring that is to be asked, bit c for that of client c, and each in which a pass is known to wait, the
     /// first client's first, at most 32 passes each. A pass that is not that client's, or not out, stays in its ring.
+    ///
+    /// Where no ring is asked and none is known to hold a pass, no client's end is looked at: the ends lie side by side,
+    /// and each client writes to its own.
     pub(crate) fn drain(&mut self, asked: u64)
         ensures { Drained self.old self.new }
     {
-        drain_all(&mut self.core, &mut self.consumers, asked);
+        if asked == 0 && self.is_quiet {
+            return;
+        }
+        self.is_quiet = drain_all(&mut self.core, &mut self.consumers, asked);
     }
 
     /// Begins a session's critical section: gives each pass back that waits in the session's own ring, and writes its
@@ -154,6 +167,7 @@ impl<N: PartNames, K: ListKeeper> LockedPool<N, K> {
         let waiting = consumer.slots_beside(&mut session.producer);
         drain_known(&mut self.core, client, consumer, waiting);
         session.producer.slots_beside(consumer);
+        self.is_quiet = self.is_quiet & (consumer.cached_slots() == 0);
         self.core.keeps_the_rules();
         self.board
             .write::<Book<K>, Told>(&mut session.line, &session.book);
@@ -199,6 +213,7 @@ impl<N: PartNames, K: ListKeeper> LockedPool<N, K> {
             core,
             reader,
             consumers: _,
+            is_quiet: _,
             ends: _,
             mut pieces,
             board: _,

@@ -52,7 +52,9 @@ impl<N: PartNames, K: ListKeeper> LockedPool<N, K> {
         {
             Ok(Some(note)) => {
                 let client = usize::from(session.book.client());
-                pass_through(&mut session.producer, &mut self.consumers[client], note);
+                let consumer = &mut self.consumers[client];
+                pass_through(&mut session.producer, consumer, note);
+                self.is_quiet = self.is_quiet & (consumer.cached_slots() == 0);
                 self.board
                     .write::<Book<K>, Told>(&mut session.line, &session.book);
                 self.seen

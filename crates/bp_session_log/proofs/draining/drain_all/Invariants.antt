@@ -1,6 +1,6 @@
 -- The rings before this one were drained, and the others are as they were.
-use Rattle.std.proofs.Common.{◌≡◌, map, take, drop, vec_len}
-use Rattle.bp_session_log.specs.Rings.{ring_view, DrainsRings}
+use Rattle.std.proofs.Common.{◌≡◌, map, take, drop, vec_len, IsTrue}
+use Rattle.bp_session_log.specs.Rings.{ring_view, DrainsRings, NoneWaits}
 use Rattle.bp_session_log.proofs.draining.drain_all.Given as goal
 
 abbrev pub invariant-loop-client : goal.invariant-loop-client
@@ -14,4 +14,5 @@ invariant-loop-client g l =
       count : vec_len l.consumers ≡ vec_len l.initial.consumers;
       drained : DrainsRings 32 0 (take i first) (take i now) l.initial.core.past l.core.past;
       left : drop i now ≡ drop i first;
+      quiet : IsTrue l.is_quiet → NoneWaits (take i now);
     }

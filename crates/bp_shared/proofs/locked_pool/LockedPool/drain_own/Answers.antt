@@ -1,9 +1,11 @@
 -- Both ends of the session's ring, and its line.
-use Rattle.std.proofs.Common.{rules, arith, refl, ◌≡◌, ◌∙◌, sym, ap, subst, map, length}
-use Rattle.std.proofs.lemmas.List.{map-set, length-reverse}
-use Rattle.rtrb.specs.Ring.{received, known_free}
+use Rattle.std.proofs.Common.{nat_eq, rules, arith, refl, ◌≡◌, ◌∙◌, sym, ap, subst, map, length}
+use Rattle.std.proofs.lemmas.Bool.{eqb-true}
+use Rattle.std.proofs.lemmas.List.{nil_from_length, map-set, length-reverse}
+use Rattle.rtrb.specs.Ring.{known_items, received, known_free}
 use Rattle.bp_session_log.specs.Books.{unfixes}
 use Rattle.bp_session_log.specs.Rings.{RingName, RingView, ring_view}
+use Rattle.bp_session_log.proofs.Drains.{both_hold, quiet_set}
 use Rattle.bp_shared.specs.Posting.{IsPosted}
 use Rattle.bp_shared.specs.Sessions.{SessionValue}
 use Rattle.bp_shared.proofs.Posting.{meets}
@@ -90,3 +92,11 @@ returns g c =
       legal = c.keeps_the_rules.ensures.legal;
       list = listed_by _ _ s.book.client _ _ _ _ _ s.book.said _ shown (own_line _ _ _ _ _ (rw (← c.self.view_is, ← c.session.view_is) at c.requires.part) c.session.invariant.3) c.write.ensures all.all;
     })
+
+pub invariant_of-self-inside : goal.invariant_of-self-inside
+invariant_of-self-inside g c = (
+  (λ is.
+      let both = both_hold c.self.inside.is_quiet (nat_eq c.cached_slots.result 0) is in
+      quiet_set ring_view c.from-client.result c.self.inside.consumers.items c.slots_beside.new.consumer (c.self.inside.quiet both.0) (nil_from_length (known_items c.slots_beside.new.consumer) (sym c.cached_slots.ensures ∙ eqb-true c.cached_slots.result 0 both.1))),
+  tt,
+)

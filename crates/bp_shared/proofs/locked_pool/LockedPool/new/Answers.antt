@@ -3,8 +3,8 @@ use Rattle.std.proofs.Common.{rules, ◌∙◌}
 use Rattle.bp_shared.proofs.Posting.{posted_none, views_name, views_empty}
 use Rattle.bp_shared.proofs.locked_pool.LockedPool.new.Goals as goal
 
-pub invariant_of-result : goal.invariant_of-result
-invariant_of-result g c = (
+pub invariant_of-result-2 : goal.invariant_of-result-2
+invariant_of-result-2 g c = (
   search rules,
   search rules,
   c.requires.shown,
