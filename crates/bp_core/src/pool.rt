@@ -26,10 +26,10 @@ use std::marker::Model;
 /// has. Each call is one step.
 #[derive(Drop)]
 pub struct PoolCore<K: Keeper> {
-    alloc: Global,
-    config: CoreConfig,
-    state: State,
     trail: K,
+    state: State,
+    config: CoreConfig,
+    alloc: Global,
 }
 
 impl<K: Keeper> Model for PoolCore<K> {

@@ -1,14 +1,14 @@
 -- Slots in the order of their grants' serial numbers: which grants are out, what halving by a number finds, and what marks and drops leave.
-use Rattle.std.proofs.Common.{◌≡◌, ◌≢◌, ℕ, zero, suc, ◌+◌, ◌-◌, ◌<◌, ◌≤◌, Bool, true, false, not, ◌&&◌, ◌||◌, ◌==◌, cond, List, [], ◌∷◌, ◌++◌, length, filter, get_or, set, append-nil, reverse, Option, Some, max, refl, sym, ap, ◌∙◌, arith, inl, inr}
+use Rattle.std.proofs.Common.{◌≡◌, ◌≢◌, ℕ, zero, suc, ◌+◌, ◌-◌, ◌<◌, ◌≤◌, Bool, true, false, not, ◌&&◌, ◌||◌, ◌==◌, cond, List, [], ◌∷◌, ◌++◌, length, length-append, filter, get_or, set, append-nil, reverse, Option, Some, max, refl, sym, ap, ◌∙◌, arith, inl, inr}
 use Rattle.std.specs.Prelude.{All, if◌then◌else◌, slice_get}
 use Rattle.std.specs.Option.{option_to_list}
 use Rattle.std.proofs.lemmas.Bool.{ne_eqb, eq-eqb, cases_lt}
-use Rattle.std.proofs.lemmas.List.{get_or_default}
+use Rattle.std.proofs.lemmas.List.{get_or_default, get_or_push}
 use Rattle.std.proofs.lemmas.List.Sorted.{IsPermutation-reverse, list_any-IsPermutation}
 use Rattle.bp_trail.specs.Event.{Grant, grant, same_grant}
 use Rattle.bp_trail.specs.Lists.{some}
 use Rattle.bp_trail.specs.Legal.{is_out}
-use Rattle.bp_trail.proofs.Counting.{filter-reverse}
+use Rattle.bp_trail.proofs.Counting.{filter-reverse, get-left}
 use Rattle.bp_frames.specs.declared.grant_list.Slot.{Slot}
 use Rattle.bp_frames.specs.GrantLists.{grants_out, above}
 use Rattle.bp_frames.specs.Rising.{IsRisingBy, StandsAt, StandsNowhere}
@@ -132,6 +132,16 @@ module _ (n : ℕ) where
           ap (λ b. cond b (s.grant ∷ filter (λ (g : Grant). not (g.serial == n)) (grants_out ss)) (filter (λ (g : Grant). not (g.serial == n)) (grants_out ss))) (ap not (ne_eqb s.grant.serial n (differs refl)))
           ∙ ap (λ gs. s.grant ∷ gs) rest
       go false differs rest = rest
+
+  -- nor where the numbers would rise with it
+  pub without-newest : (ss : List Slot) (x : Slot) → x.grant.serial ≡ n → IsRisingBy (λ (s : Slot). s.grant.serial) (ss ++ x ∷ []) → filter (λ (g : Grant). not (g.serial == n)) (grants_out ss) ≡ grants_out ss
+  without-newest ss x is rising = without ss (λ k e lt out same. absurd (omega (arith, same, is, last e, front k e lt, rising k (length ss) e lt (omega (arith, length-append ss (x ∷ []))))))
+    where
+      front : (k : ℕ) (e : Slot) → k < length ss → (get_or (ss ++ x ∷ []) k e).grant.serial ≡ (get_or ss k e).grant.serial
+      front k e lt = ap (λ (s : Slot). s.grant.serial) (get-left ss (x ∷ []) k e lt)
+
+      last : (e : Slot) → (get_or (ss ++ x ∷ []) (length ss) e).grant.serial ≡ x.grant.serial
+      last e = ap (λ (s : Slot). s.grant.serial) (get_or_push ss x e (length ss) refl)
 
   -- the grant with the number is marked
   marked : (ss : List Slot) (at : ℕ) (s : Slot) → s.is_out ≡ false → at < length ss → ((d : Slot) → (get_or ss at d).grant.serial ≡ n) → ((k : ℕ) (e : Slot) → k < length ss → k ≢ at → (get_or ss k e).grant.serial ≢ n)

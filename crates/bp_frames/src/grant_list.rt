@@ -291,9 +291,28 @@ impl GrantList {
         if !is_among(&self.slots, client, page, serial) {
             return false;
         }
+        self.close_each(serial);
+        true
+    }
+
+    /// Closes each slot of this number, and those that were left.
+    fn close_each(&mut self, serial: u64)
+        ensures out { self.new.out ≡ filter (λ g. not (g.serial == serial)) self.old.out }
+        ensures more { GivesAsMuch self.old self.new }
+    {
         self.slots.retain(|slot| is_another(slot, serial));
         self.count = self.slots.len();
-        true
+    }
+
+    /// What `add` and then `take_back` of a grant of this number would leave: each grant of the number goes. It leaves no
+    /// less room, and takes O(1) where the number is above all in a list whose numbers rise.
+    pub fn pass_by(&mut self, serial: u64)
+        ensures out { self.new.out ≡ filter (λ g. not (g.serial == serial)) self.old.out }
+        ensures more { GivesAsMuch self.old self.new }
+    {
+        if !rises_with(&self.slots, self.is_rising, serial) {
+            self.close_each(serial);
+        }
     }
 
     /// Marks this grant as taken back, or removes it where the numbers do not rise, and returns true if it was out.

@@ -13,8 +13,8 @@ use std::marker::Model;
 #[derive(Drop)]
 pub struct SilentKeeper {
     count: usize,
-    room: usize,
     totals: Totals,
+    room: usize,
     trail: GhostTrail,
 }
 

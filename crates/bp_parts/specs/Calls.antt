@@ -1,6 +1,6 @@
 -- What a call of the session in one part promises: to the letter what it does in a pool that stands
 -- alone.
-use Rattle.std.specs.Prelude.{◌≡◌, ◌≢◌, ◌⊎◌, ℕ, Bool, false, true, List, ◌+◌, ◌^◌, ◌<◌, Result, Err, IfErr}
+use Rattle.std.specs.Prelude.{◌≡◌, ◌≢◌, ◌⊎◌, ℕ, Bool, false, true, List, ◌+◌, ◌^◌, ◌<◌, Result, Err, IfErr, IsOk}
 use Rattle.bp_page.specs.declared.refusals.Refusal.{Refusal}
 use Rattle.bp_page.specs.declared.refusals.Refusal.TheVariants as refusal
 use Rattle.bp_core.specs.declared.passes.Pass.{Pass}
@@ -15,7 +15,7 @@ use Rattle.bp_trail.specs.Trail.{Trail}
 use Rattle.bp_session_log.specs.Turns.{TickSaid, PurgeSaid, ReadSaid}
 use Rattle.bp_shared.specs.Sessions.{SessionValue, FixSaid, FlushSaid, DiscardSaid, IsLong, IsRoomy, IsRoomyFor, LacksOwn}
 use Rattle.bp_shared.specs.FlushAll.{FlushAllSaid}
-use Rattle.bp_shared.specs.Keeping.{Acted, KeepsSession, FillsRoom, WantsMemory}
+use Rattle.bp_shared.specs.Keeping.{Acted, IsReadAtOnce, KeepsSession, FillsRoom, WantsMemory}
 
 -- a fix of the page with this number in the part
 pub record FixesIn (refuses : Bool) (c : Parameters) (start : Trail) (page : ℕ)
@@ -32,6 +32,7 @@ pub record FixesIn (refuses : Bool) (c : Parameters) (start : Trail) (page : ℕ
 pub record PageReadsIn {A : Type 0} (refuses : Bool) (c : Parameters) (start : Trail) (page : ℕ)
     (given : Result A Refusal) (old new : SessionValue) : Type 0 where
   pub keeps : KeepsSession c start given old new
+  pub at_once : IsOk given → IsReadAtOnce page old new
   pub room : given ≡ Err refusal.TrailFull → FillsRoom 3 c new.seen
   pub memory : refuses ≡ false → IsRoomyFor 2 old → given ≡ Err refusal.OutOfMemory
       → IsLong new ⊎ WantsMemory (call.Fix page) c new.seen

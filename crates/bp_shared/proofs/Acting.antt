@@ -1,5 +1,5 @@
 -- What a session's sections show it, call after call.
-use Rattle.std.proofs.Common.{◌≡◌, refl, sym, ap, subst, ◌∙◌, ℕ, ◌≤◌, ◌<◌, ◌+◌, ◌^◌, ◌++◌, append_assoc, length, arith, Result, Ok, Err, inl, inr}
+use Rattle.std.proofs.Common.{◌≡◌, refl, sym, ap, subst, ◌∙◌, ℕ, ◌≤◌, ◌<◌, ◌+◌, ◌^◌, ◌++◌, append_assoc, length, arith, Result, Ok, Err, IsOk, inl, inr}
 use Rattle.std.proofs.lemmas.Bool.{cases_lt}
 use Rattle.bp_page.specs.declared.refusals.Refusal.{Refusal}
 use Rattle.bp_page.specs.declared.refusals.Refusal.TheVariants as refusal
@@ -47,6 +47,11 @@ looks c start old new s =
 -- before it the session's own ring was emptied, and memory taken
 pub begun : (c : Parameters) (start : Trail) (old mid new : SessionValue) → old.free ≤ 32 → mid.seen ≡ old.seen → mid.part ≡ old.part → Acted c start mid new → Acted c start old new
 begun c start old mid new few seen part a = record { part = a.part ∙ part; few = few; free = a.free; legal = a.legal; list_is = a.list_is; goes_on = subst (λ s. GoesOnFrom s new.seen) seen a.goes_on }
+
+-- a call that is not refused makes one
+pub acts_ok : {A : Type 0} (c : Parameters) (start : Trail) (answer : Result A Refusal) (old new : SessionValue) → Acts c start answer old new → IsOk answer → Acted c start old new
+acts_ok c start (Ok done) old new acts ok = acts
+acts_ok c start (Err why) old new acts ok = absurd (cc)
 
 -- ---- why a section was refused
 pub fills : (n m : ℕ) (c : Parameters) (core after : CoreView) (seen : Trail) → core.parameters ≡ c → n ≤ m → LacksRoomFor n core → after ≡ core → seen ≡ after.past → FillsRoom m c seen

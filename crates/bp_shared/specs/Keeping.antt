@@ -1,14 +1,16 @@
 -- What a call of a session leaves as it was, and what its sections show it of the trail.
-use Rattle.std.specs.Prelude.{◌≡◌, ◌⊎◌, ℕ, ◌<◌, ◌≤◌, true, Result, Err, length}
+use Rattle.std.specs.Prelude.{◌≡◌, ◌⊎◌, ℕ, ◌<◌, ◌≤◌, true, false, List, Result, Err, length}
 use Rattle.bp_page.specs.declared.refusals.Refusal.{Refusal}
 use Rattle.bp_page.specs.declared.refusals.Refusal.TheVariants as refusal
 use Rattle.bp_trail.specs.declared.entries.Call.{Call}
 use Rattle.bp_trail.specs.Legal.{Legal}
 use Rattle.bp_trail.specs.PageMap.{reply_of}
 use Rattle.bp_trail.specs.Parameters.{Parameters}
+use Rattle.bp_trail.specs.Places.{resident}
 use Rattle.bp_trail.specs.Room.{free_keeping}
 use Rattle.bp_trail.specs.Trail.{Trail}
 use Rattle.bp_core.specs.Outcomes.{takes_memory}
+use Rattle.bp_session_log.specs.Turns.{and_read}
 use Rattle.bp_shared.specs.Sessions.{SessionValue, IsRoomy}
 use Rattle.bp_shared.specs.Telling.{GoesOnFrom, IsListOf}
 
@@ -50,6 +52,24 @@ pub record KeepsSession {A : Type 0} (c : Parameters) (start : Trail) (answer : 
   pub before : new.before ≡ old.before
   pub acts : Acts c start answer old new
   pub roomy : IsRoomy old → IsRoomy new
+
+-- the trail that the session saw last ends in the entries of a page that was fixed, read and unfixed at
+-- once: nobody's entry stands between them
+abbrev pub EndsInRead : ℕ → SessionValue → Type 0
+EndsInRead page s =
+    (n : ℕ) × (image : List ℕ) × (past : Trail)
+    × (s.seen ≡ and_read s.client page n image past)
+
+-- in a trail that a section between the two saw, the page was in no frame
+pub record WasAway (page : ℕ) (old new : SessionValue) : Type 0 where
+  pub looked : Trail
+  pub before : GoesOnFrom old.seen looked
+  pub after : GoesOnFrom looked new.seen
+  pub away : resident looked page ≡ false
+
+-- a page that is in a frame is read at once
+abbrev pub IsReadAtOnce : ℕ → SessionValue → SessionValue → Type 0
+IsReadAtOnce page old new = EndsInRead page new ⊎ WasAway page old new
 
 -- the entries of a trail, and what is owed after them, leave less room than for so many more
 abbrev pub FillsRoom : ℕ → Parameters → Trail → Type 0

@@ -27,12 +27,13 @@ mod turns;
 pub(crate) struct LockedPool<N: PartNames, K: ListKeeper> {
     /// The number of the pool.
     part: u8,
+    /// True only if no pass is known to wait in a ring. Each section looks at it, so it stands beside the lock, as do the
+    /// counts of the core, which come first there.
+    is_quiet: bool,
     core: PoolCore<K>,
     reader: Reader,
     /// The ring of each client.
     consumers: Vec<Consumer<PassNote>>,
-    /// True only if no pass is known to wait in a ring.
-    is_quiet: bool,
     /// The number of ends of device work, modulo 2^64.
     ends: u64,
     /// The ring's end at which pieces of the trail go in.

@@ -1,6 +1,7 @@
 //! A look at a page that is in a frame: its fix, its read and its unfix in one critical section.
-ghost use Rattle.std.specs.Prelude.{◌≡◌, ◌≢◌, ◌+◌, ◌<◌, ◌≤◌, false, length};
-ghost use Rattle.bp_shared.specs.Keeping.{Acted, FillsRoom};
+ghost use Rattle.std.specs.Prelude.{◌≡◌, ◌≢◌, ◌+◌, ◌<◌, ◌≤◌, true, false, length};
+ghost use Rattle.bp_trail.specs.Places.{resident};
+ghost use Rattle.bp_shared.specs.Keeping.{Acted, EndsInRead, FillsRoom};
 ghost use Rattle.bp_shared.specs.Locked.{Enters};
 ghost use Rattle.bp_shared.specs.Sessions.{LookSaid};
 
@@ -32,7 +33,6 @@ impl<N: PartNames, K: ListKeeper> LockedPool<N, K> {
         requires page_in { page < N.parameters.pages }
         requires fits { offset + length into.old ≤ N.parameters.size }
         requires entries { 4 ≤ session.old.room }
-        requires passes { 1 ≤ session.old.passes }
         requires copies { 2 ≤ session.old.copies }
         ensures client { session.new.client ≡ session.old.client }
         ensures before { session.new.before ≡ session.old.before }
@@ -40,8 +40,9 @@ impl<N: PartNames, K: ListKeeper> LockedPool<N, K> {
         ensures ends { self.new.ends ≡ self.old.ends }
         ensures outcome { LookSaid session.old.client page offset into.old result into.new
             session.old.said session.new.said }
-        ensures passes { session.old.passes ≤ session.new.passes + 1 }
-        ensures stays { result ≡ Ok false → session.new.passes ≡ session.old.passes }
+        ensures once { result ≡ Ok true → EndsInRead page session.new }
+        ensures away { result ≡ Ok false → resident session.new.seen page ≡ false }
+        ensures passes { session.old.passes ≤ session.new.passes }
         ensures places { session.new.places ≡ session.old.places }
         ensures memory { K.REFUSES ≡ false → result ≢ Err Refusal.OutOfMemory }
         ensures room { result ≡ Err Refusal.TrailFull → FillsRoom 3 N.parameters session.new.seen }

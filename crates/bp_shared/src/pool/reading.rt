@@ -1,11 +1,12 @@
 //! Reads of shared pages by their numbers: a fix, a read and an unfix in one call.
-ghost use Rattle.std.specs.Prelude.{◌≡◌, ◌≢◌, ◌⊎◌, ◌+◌, ◌≤◌, ◌<◌, false, true, length};
+ghost use Rattle.std.specs.Prelude.{◌≡◌, ◌≢◌, ◌⊎◌, ◌+◌, ◌≤◌, ◌<◌, false, true, length, IsOk};
+ghost use Rattle.bp_trail.specs.Places.{resident};
 ghost use Rattle.bp_trail.specs.declared.entries.Call.TheVariants as Call;
 ghost use Rattle.bp_core.specs.Outcomes.{pass_is_out};
 ghost use Rattle.bp_shared.specs.Sessions.{DoesWorkSaid, IsLong, IsRoomy, IsRoomyFor};
 ghost use Rattle.bp_shared.specs.Sessions.{LookSaid, PageReadSaid, ReadAndUnfixSaid};
 ghost use Rattle.bp_shared.specs.Writing.{WithLsnSeen};
-ghost use Rattle.bp_shared.specs.Keeping.{Acted, KeepsSession, FillsRoom, WantsMemory};
+ghost use Rattle.bp_shared.specs.Keeping.{Acted, EndsInRead, IsReadAtOnce, KeepsSession, FillsRoom, WantsMemory};
 
 use super::SharedPool;
 use crate::names::PartNames;
@@ -42,6 +43,7 @@ impl<N: PartNames, K: ListKeeper> SharedPool<N, K> {
         ensures port { P.geometry_of port.new ≡ P.geometry_of port.old }
         ensures outcome { PageReadSaid session.old.client page offset into.old result into.new
             session.old.said session.new.said }
+        ensures at_once { IsOk result → IsReadAtOnce page session.old session.new }
         ensures room { result ≡ Err Refusal.TrailFull → FillsRoom 3 N.parameters session.new.seen }
         ensures memory { K.REFUSES ≡ false → IsRoomyFor 2 session.old
             → result ≡ Err Refusal.OutOfMemory
@@ -78,8 +80,9 @@ impl<N: PartNames, K: ListKeeper> SharedPool<N, K> {
         ensures room { result ≡ Err Refusal.TrailFull → FillsRoom 3 N.parameters session.new.seen }
         ensures memory { K.REFUSES ≡ false → IsRoomyFor 2 session.old
             → result ≡ Err Refusal.OutOfMemory → IsLong session.new }
-        ensures roomy { result ≢ Err Refusal.OutOfMemory → IsRoomy session.new }
-        ensures roomy_still { result ≡ Ok false → IsRoomyFor 2 session.new }
+        ensures once { result ≡ Ok true → EndsInRead page session.new }
+        ensures away { result ≡ Ok false → resident session.new.seen page ≡ false }
+        ensures roomy { result ≢ Err Refusal.OutOfMemory → IsRoomyFor 2 session.new }
     {
         session.book.reserve(Room::with_passes(2))?;
         let mut state = self.lock_and_drain(rt, session);

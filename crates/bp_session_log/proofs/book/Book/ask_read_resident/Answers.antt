@@ -13,7 +13,7 @@ returns-clause-adds g c =
     let said = c.args.self.now.said in
     let image = c.unwrap-image.result.now in
     let n = c.in-Some.note.serial in
-    let grows : c.tell_unfix.new.self.said ≡ and_read c.args.self.now.client c.args.page n image said = search rules in
+    let grows : c.tell_look.new.self.said ≡ and_read c.args.self.now.client c.args.page n image said = search rules in
     record {
       parameters = ap (λ (v : CoreView). v.parameters) done.3;
       before = ap (λ (v : CoreView). v.before) done.3;

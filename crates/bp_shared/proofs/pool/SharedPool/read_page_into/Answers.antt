@@ -1,9 +1,9 @@
 -- One section where the page is in a frame, and the longer way after it where it is in none.
-use Rattle.std.proofs.Common.{◌∙◌, sym, subst, Bool, Ok, Err, inr}
+use Rattle.std.proofs.Common.{◌∙◌, sym, ap, subst, Bool, Ok, Err, inr}
 use Rattle.std.proofs.lemmas.Result.{err_from_is_err_and}
 use Rattle.bp_page.specs.declared.refusals.Refusal.{Refusal}
 use Rattle.bp_shared.specs.Sessions.{LookSaid, PageReadSaid}
-use Rattle.bp_shared.proofs.Acting.{acts_more}
+use Rattle.bp_shared.proofs.Acting.{acts_more, acts_ok}
 use Rattle.bp_shared.proofs.Looking.{look_said, look_work, refusal_said}
 use Rattle.bp_shared.proofs.Writing.{work_since}
 use Rattle.bp_shared.proofs.pool.SharedPool.read_page_into.Goals as goal
@@ -49,3 +49,9 @@ returns-clause-work g c =
     let looked = c.in_ok-read_if_resident.ensures.keeps in
     let away = subst (λ (b : Bool). LookSaid old.client c.args.page c.args.offset c.args.into.now (Ok b) look.into old.said look.session.said) c.if-branch.false c.in_ok-read_if_resident.ensures.outcome in
     work_since _ _ old look.session c.read_by_pass.new.session _ _ _ _ looked.client looked.acts.goes_on (rw away.0 at c.read_by_pass.ensures.work)
+
+pub returns-clause-at_once : goal.returns-clause-at_once
+returns-clause-at_once g c ok =
+    let look = c.in_ok-read_if_resident.ensures in
+    let done = acts_ok _ _ c.read_by_pass.result c.read_if_resident.new.session c.read_by_pass.new.session c.read_by_pass.ensures.keeps.acts ok in
+    inr (record { looked = c.read_if_resident.new.session.seen; before = look.keeps.acts.goes_on; after = done.goes_on; away = look.away (ap Ok c.if-branch.false) })
