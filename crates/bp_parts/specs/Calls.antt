@@ -32,7 +32,7 @@ pub record FixesIn (refuses : Bool) (c : Parameters) (start : Trail) (page : ℕ
 pub record PageReadsIn {A : Type 0} (refuses : Bool) (c : Parameters) (start : Trail) (page : ℕ)
     (given : Result A Refusal) (old new : SessionValue) : Type 0 where
   pub keeps : KeepsSession c start given old new
-  pub at_once : IsOk given → IsReadAtOnce page old new
+  pub at_once : IsOk given → IsReadAtOnce start page old new
   pub room : given ≡ Err refusal.TrailFull → FillsRoom 3 c new.seen
   pub memory : refuses ≡ false → IsRoomyFor 2 old → given ≡ Err refusal.OutOfMemory
       → IsLong new ⊎ WantsMemory (call.Fix page) c new.seen

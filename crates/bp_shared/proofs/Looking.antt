@@ -84,6 +84,10 @@ module _ (client page offset : ℕ) (before : List ℕ) (g : Grant) (bytes : Lis
   piece_is : a.piece ≡ and_read client page g.serial t.0 []
   piece_is = append_cancel_right a.piece (and_read client page g.serial t.0 []) book.said (sym a.grows ∙ t.2)
 
+  -- the trail ends in them
+  pub look_ends : left.past ≡ and_read client page g.serial t.0 core.past
+  look_ends = a.goes_on ∙ ap (λ es. es ++ core.past) piece_is
+
   pub look_adds : Adds client core.past book.said left.past kept.said
   look_adds = record {
     piece = a.piece;

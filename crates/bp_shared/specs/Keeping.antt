@@ -53,23 +53,26 @@ pub record KeepsSession {A : Type 0} (c : Parameters) (start : Trail) (answer : 
   pub acts : Acts c start answer old new
   pub roomy : IsRoomy old → IsRoomy new
 
--- the trail that the session saw last ends in the entries of a page that was fixed, read and unfixed at
--- once: nobody's entry stands between them
-abbrev pub EndsInRead : ℕ → SessionValue → Type 0
-EndsInRead page s =
+-- the list got the entries of a page that was fixed, read and unfixed at once, and no other, and the
+-- trail that the session saw last ends in them: nobody's entry stands between them
+abbrev pub EndsInRead : ℕ → SessionValue → SessionValue → Type 0
+EndsInRead page old new =
     (n : ℕ) × (image : List ℕ) × (past : Trail)
-    × (s.seen ≡ and_read s.client page n image past)
+    × (new.said ≡ and_read new.client page n image old.said)
+    × (new.seen ≡ and_read new.client page n image past)
 
--- in a trail that a section between the two saw, the page was in no frame
-pub record WasAway (page : ℕ) (old new : SessionValue) : Type 0 where
+-- the page was in no frame in a trail that goes on from what the session saw before, and has of the
+-- client what the session's list had then, each unfix too
+pub record WasAway (start : Trail) (page : ℕ) (old new : SessionValue) : Type 0 where
   pub looked : Trail
+  pub list_is : IsListOf start looked old.client old.said
   pub before : GoesOnFrom old.seen looked
   pub after : GoesOnFrom looked new.seen
   pub away : resident looked page ≡ false
 
 -- a page that is in a frame is read at once
-abbrev pub IsReadAtOnce : ℕ → SessionValue → SessionValue → Type 0
-IsReadAtOnce page old new = EndsInRead page new ⊎ WasAway page old new
+abbrev pub IsReadAtOnce : Trail → ℕ → SessionValue → SessionValue → Type 0
+IsReadAtOnce start page old new = EndsInRead page old new ⊎ WasAway start page old new
 
 -- the entries of a trail, and what is owed after them, leave less room than for so many more
 abbrev pub FillsRoom : ℕ → Parameters → Trail → Type 0

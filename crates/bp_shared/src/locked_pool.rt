@@ -27,8 +27,8 @@ mod turns;
 pub(crate) struct LockedPool<N: PartNames, K: ListKeeper> {
     /// The number of the pool.
     part: u8,
-    /// True only if no pass is known to wait in a ring. Each section looks at it, so it stands beside the lock, as do the
-    /// counts of the core, which come first there.
+    /// True only if no pass is known to wait in a ring. Each section looks at it, so it stands beside the lock, with the
+    /// counts of the core, which come first in that.
     is_quiet: bool,
     core: PoolCore<K>,
     reader: Reader,

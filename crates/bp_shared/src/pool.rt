@@ -146,7 +146,8 @@ fn open<N: PartNames, K: ListKeeper>(
 /// Each client's list has the keeper of the core's trail, which is in memory where nothing else is said.
 ///
 /// A call takes a session of this pool, and a page and a port of the core's geometry. With a session of a pool that
-/// stands beside this one it waits for ever, and holds up nobody.
+/// stands beside this one a call that takes the lock waits for ever, and holds up nobody; an `unfix` posts the pass to
+/// that pool, which takes it back at that session's next call there.
 #[derive(Drop)]
 pub struct SharedPool<N: PartNames, K: ListKeeper = RecordingKeeper> {
     alloc: Global,

@@ -8,6 +8,8 @@ mod adder;
 #[cfg(test)]
 mod failing;
 #[cfg(test)]
+mod looks;
+#[cfg(test)]
 mod many_threads;
 #[cfg(test)]
 mod scratch;

@@ -16,6 +16,8 @@ mod following;
 #[cfg(test)]
 mod labels;
 #[cfg(test)]
+mod looking;
+#[cfg(test)]
 mod making;
 #[cfg(test)]
 mod own_ports;

@@ -19,7 +19,19 @@ pub(crate) fn config<R: Abort + AllocGlobal>(rt: &R, frames: usize) -> Config {
 
 /// Makes so many ports to one device.
 pub(crate) fn ports<R: Abort + AllocGlobal>(rt: &R, count: usize) -> Vec<MemPort> {
-    let geometry = Geometry::new(PAGES, 16).expect(rt, "the geometry");
+    ports_to(
+        rt,
+        Geometry::new(PAGES, 16).expect(rt, "the geometry"),
+        count,
+    )
+}
+
+/// Makes so many ports to one device of this geometry.
+pub(crate) fn ports_to<R: Abort + AllocGlobal>(
+    rt: &R,
+    geometry: Geometry,
+    count: usize,
+) -> Vec<MemPort> {
     let device = MemDevice::new(rt.alloc(), geometry).expect(rt, "the device");
     let mut ports = Vec::new(rt.alloc());
     for _ in 0..count {

@@ -1,5 +1,5 @@
 //! A page that is in a frame is fixed, read and unfixed at once.
-ghost use Rattle.std.specs.Prelude.{◌≡◌, ◌≢◌, ◌≤◌, ◌<◌, ◌+◌, false, length, None};
+ghost use Rattle.std.specs.Prelude.{◌≡◌, ◌≢◌, ◌≤◌, ◌<◌, ◌+◌, false, length};
 ghost use Rattle.bp_core.specs.Outcomes.{ReadResidentOutcome};
 ghost use Rattle.bp_session_log.specs.Books.{AddsPiece};
 ghost use Rattle.bp_session_log.specs.Turns.{ReadResidentTurn, and_read};

@@ -96,8 +96,6 @@ impl<K: ListKeeper> Book<K> {
         ensures pass { result ≡ pass }
         ensures told { Tells self.old (Call.Fix page) (Reply.Hit pass.serial) self.new }
         ensures passes { self.old.passes ≤ self.new.passes + 1 }
-        ensures entries { self.old.entries ≤ self.new.entries + 2 }
-        ensures copies { self.new.copies ≡ self.old.copies }
         ensures places { self.new.places ≡ self.old.places }
     {
         let note = pass.note();

@@ -32,15 +32,15 @@ impl<N: PartNames, K: ListKeeper> LockedPool<N, K> {
         requires entered { Enters N.past session.old self.old }
         requires page_in { page < N.parameters.pages }
         requires fits { offset + length into.old ≤ N.parameters.size }
-        requires entries { 4 ≤ session.old.room }
-        requires copies { 2 ≤ session.old.copies }
+        requires entries { 3 ≤ session.old.room }
+        requires copies { 1 ≤ session.old.copies }
         ensures client { session.new.client ≡ session.old.client }
         ensures before { session.new.before ≡ session.old.before }
         ensures acted { Acted N.parameters N.past session.old session.new }
         ensures ends { self.new.ends ≡ self.old.ends }
         ensures outcome { LookSaid session.old.client page offset into.old result into.new
             session.old.said session.new.said }
-        ensures once { result ≡ Ok true → EndsInRead page session.new }
+        ensures once { result ≡ Ok true → EndsInRead page session.old session.new }
         ensures away { result ≡ Ok false → resident session.new.seen page ≡ false }
         ensures passes { session.old.passes ≤ session.new.passes }
         ensures places { session.new.places ≡ session.old.places }

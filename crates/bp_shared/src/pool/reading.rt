@@ -21,7 +21,8 @@ use std::sync::Wait;
 impl<N: PartNames, K: ListKeeper> SharedPool<N, K> {
     /// Copies bytes of a page, from the offset on, as many as `into` has. It does what `fix`, `read_into` and giving the
     /// pass back do: the session's list gets the events of the three, in this order, and the session holds no pass more
-    /// than before. Where the page is in a frame, all is done in one critical section, with no look at the mark.
+    /// than before. Where the page is in a frame, all is done in one critical section, with no look at the mark: nobody's
+    /// entry stands between the three.
     ///
     /// Refused as `fix` is, and then no pass was given; else as `read_into` is, with `TrailFull` or `OutOfMemory`, and
     /// then the pass was given back all the same. Either leaves the bytes that were there. It is never `UnknownPass`. A
@@ -43,7 +44,7 @@ impl<N: PartNames, K: ListKeeper> SharedPool<N, K> {
         ensures port { P.geometry_of port.new ≡ P.geometry_of port.old }
         ensures outcome { PageReadSaid session.old.client page offset into.old result into.new
             session.old.said session.new.said }
-        ensures at_once { IsOk result → IsReadAtOnce page session.old session.new }
+        ensures at_once { IsOk result → IsReadAtOnce N.past page session.old session.new }
         ensures room { result ≡ Err Refusal.TrailFull → FillsRoom 3 N.parameters session.new.seen }
         ensures memory { K.REFUSES ≡ false → IsRoomyFor 2 session.old
             → result ≡ Err Refusal.OutOfMemory
@@ -80,7 +81,7 @@ impl<N: PartNames, K: ListKeeper> SharedPool<N, K> {
         ensures room { result ≡ Err Refusal.TrailFull → FillsRoom 3 N.parameters session.new.seen }
         ensures memory { K.REFUSES ≡ false → IsRoomyFor 2 session.old
             → result ≡ Err Refusal.OutOfMemory → IsLong session.new }
-        ensures once { result ≡ Ok true → EndsInRead page session.new }
+        ensures once { result ≡ Ok true → EndsInRead page session.old session.new }
         ensures away { result ≡ Ok false → resident session.new.seen page ≡ false }
         ensures roomy { result ≢ Err Refusal.OutOfMemory → IsRoomyFor 2 session.new }
     {

@@ -3,14 +3,13 @@ use Rattle.std.specs.Prelude.{All, ◌==◌}
 use Rattle.std.proofs.lemmas.Bool.{and_parts}
 use Rattle.std.proofs.lemmas.Fn.{filter_same}
 use Rattle.std.proofs.lemmas.List.Elements.{filter_passes}
-use Rattle.bp_trail.specs.Event.{Grant, grant}
-use Rattle.bp_trail.specs.Legal.{is_out}
+use Rattle.bp_trail.specs.Event.{Grant}
 use Rattle.bp_trail.proofs.Counting.{filter-reverse}
 use Rattle.bp_frames.specs.declared.grant_list.Slot.{Slot}
 use Rattle.bp_frames.specs.GrantLists.{Given, grants_out, above}
 use Rattle.bp_frames.specs.Rising.{IsRisingBy}
 use Rattle.bp_frames.proofs.Rising.{rising-filter}
-use Rattle.bp_frames.proofs.Outstanding.{in-slots, out-without, all-out, above-filter}
+use Rattle.bp_frames.proofs.Outstanding.{out-without, all-out, above-filter}
 use Rattle.bp_frames.proofs.grant_list.GrantList.close_each.Goals as goal
 
 abbrev passes : (c : goal.After-self-1) → Slot → Bool

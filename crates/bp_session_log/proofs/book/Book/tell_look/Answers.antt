@@ -1,7 +1,7 @@
 -- Three entries, and the passes held as they were.
-use Rattle.std.proofs.Common.{rules, arith, ap, sym, subst, ◌∙◌, ◌∷◌, ◌≤◌}
+use Rattle.std.proofs.Common.{rules, arith, sym, subst, ◌∙◌, ◌≤◌}
 use Rattle.bp_session_log.specs.Books.{BookValue}
-use Rattle.bp_session_log.proofs.Keeping.{next_past, next_len, next_capacity}
+use Rattle.bp_session_log.proofs.Keeping.{next_len, next_capacity}
 use Rattle.bp_session_log.proofs.Reading.{keeps_looked}
 use Rattle.bp_session_log.proofs.book.Book.tell_look.Goals as goal
 

@@ -4,11 +4,12 @@ use Rattle.std.proofs.lemmas.Bool.{eqb-true}
 use Rattle.std.proofs.lemmas.List.{nil_from_length, map-set}
 use Rattle.rtrb.specs.Ring.{known_items, received, sent, known_free}
 use Rattle.bp_session_log.specs.Rings.{RingView, ring_view}
+use Rattle.bp_session_log.specs.Turns.{and_read}
 use Rattle.bp_session_log.proofs.Drains.{both_hold, quiet_set}
 use Rattle.bp_shared.specs.Posting.{IsPosted}
 use Rattle.bp_shared.proofs.Acting.{shows}
 use Rattle.bp_shared.proofs.Belonging.{own_line, own_ring}
-use Rattle.bp_shared.proofs.Looking.{look_adds, look_posted, all_came_out}
+use Rattle.bp_shared.proofs.Looking.{look_adds, look_ends, look_posted, all_came_out}
 use Rattle.bp_shared.proofs.Posting.{meets}
 use Rattle.bp_shared.proofs.Telling.{earlier_adds, earlier_seen, line_earlier, shown_more}
 use Rattle.bp_shared.proofs.locked_pool.LockedPool.read_resident.Goals as goal
@@ -65,6 +66,22 @@ returns-in-Ok-Some-clause-acted g c =
     let free : known_free s.producer ≡ 32 = rw (← c.session.view_is) at c.requires.entered.emptied in
     let seen = c.write-in-Ok-Some.ensures in
     rw (← c.session.view_is) (shows _ _ _ _ c.self.inside.core asked.new.core c.self.invariant.0.parameters_are adds.parameters c.keeps_the_rules.ensures.legal (rw (← c.self.view_is, ← c.session.view_is) at c.requires.entered.list_is) more adds.client free (c.pass_through.ensures.free.1 ∙ sym free) (line_earlier _ _ _ _ _ _ _ c.self.invariant.5 seen) seen.list_is refl)
+
+pub returns-in-Ok-Some-clause-once : goal.returns-in-Ok-Some-clause-once
+returns-in-Ok-Some-clause-once g c is =
+    let s = c.session.inside in
+    let asked = c.ask_read_resident in
+    let adds = asked.ensures.adds in
+    let note = c.in-Ok-Some.note in
+    let turn = rw c.in-Ok-Some.field-0-is at c.in-Ok-Some.ensures.outcome in
+    let ends = look_ends s.book.client c.args.page c.args.offset c.args.into.now note asked.new.into c.self.inside.core asked.new.core s.book asked.new.self adds turn in
+    rw (← c.session.view_is) (
+      note.serial,
+      turn.0,
+      c.self.inside.core.past,
+      subst (λ n. asked.new.self.said ≡ and_read n c.args.page note.serial turn.0 s.book.said) (sym adds.client) turn.2,
+      c.write-in-Ok-Some.ensures.list_is ∙ subst (λ n. asked.new.core.past ≡ and_read n c.args.page note.serial turn.0 c.self.inside.core.past) (sym adds.client) ends,
+    )
 
 pub invariant_of-self-inside : goal.invariant_of-self-inside
 invariant_of-self-inside g c = (

@@ -3,6 +3,7 @@ use Rattle.std.proofs.Common.{◌∙◌, sym, ap, subst, Bool, Ok, Err, inr}
 use Rattle.std.proofs.lemmas.Result.{err_from_is_err_and}
 use Rattle.bp_page.specs.declared.refusals.Refusal.{Refusal}
 use Rattle.bp_shared.specs.Sessions.{LookSaid, PageReadSaid}
+use Rattle.bp_shared.specs.Telling.{IsListOf}
 use Rattle.bp_shared.proofs.Acting.{acts_more, acts_ok}
 use Rattle.bp_shared.proofs.Looking.{look_said, look_work, refusal_said}
 use Rattle.bp_shared.proofs.Writing.{work_since}
@@ -52,6 +53,10 @@ returns-clause-work g c =
 
 pub returns-clause-at_once : goal.returns-clause-at_once
 returns-clause-at_once g c ok =
+    let old = c.args.session.now in
+    let mid = c.read_if_resident.new.session in
     let look = c.in_ok-read_if_resident.ensures in
-    let done = acts_ok _ _ c.read_by_pass.result c.read_if_resident.new.session c.read_by_pass.new.session c.read_by_pass.ensures.keeps.acts ok in
-    inr (record { looked = c.read_if_resident.new.session.seen; before = look.keeps.acts.goes_on; after = done.goes_on; away = look.away (ap Ok c.if-branch.false) })
+    let done = acts_ok _ _ c.read_by_pass.result mid c.read_by_pass.new.session c.read_by_pass.ensures.keeps.acts ok in
+    let said = subst (λ (b : Bool). LookSaid old.client c.args.page c.args.offset c.args.into.now (Ok b) c.read_if_resident.new.into old.said mid.said) c.if-branch.false look.outcome in
+    let listed = subst (λ n. IsListOf g.N.PartNames.past mid.seen n mid.said) look.keeps.client look.keeps.acts.list_is in
+    inr (record { looked = mid.seen; list_is = subst (IsListOf g.N.PartNames.past mid.seen old.client) said.0 listed; before = look.keeps.acts.goes_on; after = done.goes_on; away = look.away (ap Ok c.if-branch.false) })
