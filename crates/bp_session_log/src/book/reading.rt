@@ -1,5 +1,5 @@
 //! A page that is in a frame is fixed, read and unfixed at once.
-ghost use Rattle.std.specs.Prelude.{◌≡◌, ◌≢◌, ◌≤◌, ◌<◌, ◌+◌, false, length};
+ghost use Rattle.std.specs.Prelude.{◌≡◌, ◌≢◌, ◌≤◌, ◌<◌, ◌+◌, false, length, None};
 ghost use Rattle.bp_core.specs.Outcomes.{ReadResidentOutcome};
 ghost use Rattle.bp_session_log.specs.Books.{AddsPiece};
 ghost use Rattle.bp_session_log.specs.Turns.{ReadResidentTurn, and_read};
@@ -34,6 +34,7 @@ impl<K: ListKeeper> Book<K> {
         ensures outcome { ReadResidentTurn self.old.client page offset into.old result into.new
             self.old.said self.new.said }
         ensures passes { self.old.passes ≤ self.new.passes }
+        ensures stays { result ≡ Ok None → self.new ≡ self.old }
         ensures places { self.new.places ≡ self.old.places }
         ensures memory { K.REFUSES ≡ false → result ≢ Err Refusal.OutOfMemory }
     {

@@ -43,6 +43,7 @@ impl<N: PartNames, K: ListKeeper> LockedPool<N, K> {
         ensures once { result ≡ Ok true → EndsInRead page session.old session.new }
         ensures away { result ≡ Ok false → resident session.new.seen page ≡ false }
         ensures passes { session.old.passes ≤ session.new.passes }
+        ensures stays { result ≡ Ok false → session.new.passes ≡ session.old.passes }
         ensures places { session.new.places ≡ session.old.places }
         ensures memory { K.REFUSES ≡ false → result ≢ Err Refusal.OutOfMemory }
         ensures room { result ≡ Err Refusal.TrailFull → FillsRoom 3 N.parameters session.new.seen }
