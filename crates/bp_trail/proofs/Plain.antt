@@ -1,5 +1,5 @@
 -- The plain map of a page is its writes put into its opening image, and after a discard into what was due.
-use Rattle.std.proofs.Common.{◌≡◌, refl, sym, ◌∙◌, ap, subst, ℕ, Bool, true, false, not, ◌&&◌, ◌||◌, ◌==◌, if◌then◌else◌, List, [], ◌∷◌, ◌++◌, Option, Some, None, IsSome}
+use Rattle.std.proofs.Common.{◌≡◌, refl, sym, ◌∙◌, ap, subst, ℕ, Bool, true, false, not, ◌&&◌, ◌||◌, ◌==◌, if◌then◌else◌, List, [], ◌∷◌, ◌++◌, Option, Some, None, IsSome, arith}
 use Rattle.std.proofs.lemmas.Bool.{true≢false, eqb-true, or_parts, or_right, or_left}
 use Rattle.std.proofs.lemmas.Option.{none-some}
 use Rattle.std.proofs.lemmas.List.{append-nil}
@@ -11,15 +11,17 @@ use Rattle.bp_trail.specs.Parameters.{Parameters}
 use Rattle.bp_trail.specs.Lists.{some, since, after_last}
 use Rattle.bp_trail.specs.Event.{begins_of, discards, ends_well, loads, writes, written, image_read}
 use Rattle.bp_trail.specs.Trail.{Trail}
-use Rattle.bp_trail.specs.Passes.{reads_out}
+use Rattle.bp_trail.specs.Passes.{reads_out, tickets}
 use Rattle.bp_trail.specs.Saved.{settles}
 use Rattle.bp_trail.specs.Images.{plain_since, plain_map, written_into, after_discard, after_read}
 use Rattle.bp_trail.specs.Legal.{is_out, Legal}
 use Rattle.bp_trail.specs.Device.{due, due_after, due_among, due_since, due_with, all_known, discarded_since_sent}
 use Rattle.bp_trail.proofs.Sentences.{due-kept}
 use Rattle.bp_trail.proofs.Events.{Event, event-of}
-use Rattle.bp_trail.proofs.Events.Event.{read_good}
+use Rattle.bp_trail.proofs.Events.Event.{fix_write, flush_write, read_good}
 use Rattle.bp_trail.proofs.Content.{read_end_known}
+use Rattle.bp_trail.proofs.Known.{airborne}
+use Rattle.bp_trail.proofs.Lists.{some-append}
 use Rattle.bp_trail.proofs.Places.{places, out-of_page}
 use Rattle.bp_trail.proofs.WriteAhead.{not-begun}
 
@@ -60,34 +62,6 @@ loads-out : (c : Parameters) (past : Trail) (who : ℕ) (call : Call) (reply : R
 loads-out c past who _ _ (read_good t q image o) p h = (t, subst (λ y. is_out (record { client = who; page = y; serial = t }) (reads_out past) ≡ true) (eqb-true q p h) o, refl)
 loads-out c past who _ _ _ p h = cc
 
--- no discard since the last write-out began
-none-since : (p : ℕ) (past : Trail) → some (discards p) past ≡ false → discarded_since_sent past p ≡ false
-none-since p [] h = refl
-none-since p (e ∷ past) h = go (begins_of p e.reply) (none-since p past)
-  where
-    k : (discards p e ≡ false) × (some (discards p) past ≡ false)
-    k = or_parts (discards p e) (some (discards p) past) h
-
-    go : (b : Bool) → (some (discards p) past ≡ false → discarded_since_sent past p ≡ false) → some (discards p) (if b then [] else e ∷ after_last (λ d. begins_of p d.reply) past) ≡ false
-    go true ih = refl
-    go false ih = rw k.0 (ih k.1)
-
-finds-known : (c : Parameters) (m : ℕ → List ℕ) (p : ℕ) (past : Trail) → Legal c past → some (discards p) past ≡ false → FindsKnown (all_known m) p [] past
-finds-known c m p [] l n = tt
-finds-known c m p (e ∷ past) l n = (
-  λ h. let r = loads-out c past e.client e.call e.reply (event-of c past e l.here) p h in
-      (subst (λ (s : Trail). IsSome (due_since (all_known m) s p)) (sym (append-nil past)) (read_end_known c m past e.client p r.0 l.before r.1 (none-since p past k)), r.2),
-  finds-known c m p past l.before k,
-)
-  where
-    k : some (discards p) past ≡ false
-    k = (or_parts (discards p e) (some (discards p) past) n).1
-
--- Where p was never discarded, its plain map is its writes.
-pub plain-is_writes : (c : Parameters) (m : ℕ → List ℕ) (past : Trail) (p : ℕ) → Legal c past → some (discards p) past ≡ false → plain_map m past p ≡ written_into m past p
-plain-is_writes c m past p l n =
-    ap (λ (s : Trail). plain_map m s p) (sym (append-nil past)) ∙ plain-writes m (all_known m) p [] past n (finds-known c m p past l n) ∙ written-of m p past
-
 -- ---- since a discard
 
 -- what is known stays so
@@ -127,6 +101,57 @@ begun-since p (e ∷ later) past b n = go (begins_of p e.reply) b (begun-since p
         → some (discards p) (if b then [] else e ∷ after_last (λ d. begins_of p d.reply) (later ++ past)) ≡ false
     go true b ih = refl
     go false b ih = rw k.0 (ih b k.1)
+
+-- ---- in a piece of a trail, with the history before it
+
+-- a ticket that is given has not ended before
+not-ended : (c : Parameters) (past : Trail) (who : ℕ) (call : Call) (reply : Reply) → Legal c past → Event c past who call reply → (t q : ℕ) (image : List ℕ) → reply ≡ WriteFirst t q image → some (λ e. ends_well t e.call) past ≡ false
+not-ended c past who _ _ l (fix_write p v m w g) t q image e = let i : tickets past ≡ t = cc in subst (λ n. some (λ d. ends_well n d.call) past ≡ false) i ((airborne c past l).ended_below (tickets past) (omega arith))
+not-ended c past who _ _ l (flush_write p r w g) t q image e = let i : tickets past ≡ t = cc in subst (λ n. some (λ d. ends_well n d.call) past ≡ false) i ((airborne c past l).ended_below (tickets past) (omega arith))
+not-ended c past who _ _ l _ t q image e = cc
+
+or-neither : (a b : Bool) → b ≡ false → (a || b) ≡ a
+or-neither true b h = refl
+or-neither false b h = h
+
+module _ (c : Parameters) (m : ℕ → List ℕ) (p : ℕ) (h : Trail) where
+  -- what is known of p after the history and the piece is known after the piece, if p went out in it
+  known-in-piece : (whole s : Trail) → Legal c (s ++ h) → some (λ e. begins_of p e.reply) s ≡ true → IsSome (due_among (whole ++ h) (all_known m) (s ++ h) p) → IsSome (due_among whole (all_known m) s p)
+  known-in-piece whole [] l b k = absurd (true≢false (sym b))
+  known-in-piece whole (e ∷ s) l b k = go e.reply refl b k (known-in-piece whole s l.before)
+    where
+      go : (r : Reply) → e.reply ≡ r → (begins_of p r || some (λ d. begins_of p d.reply) s) ≡ true → IsSome (due_with (whole ++ h) p r (due_among (whole ++ h) (all_known m) (s ++ h) p))
+          → (some (λ d. begins_of p d.reply) s ≡ true → IsSome (due_among (whole ++ h) (all_known m) (s ++ h) p) → IsSome (due_among whole (all_known m) s p)) → IsSome (due_with whole p r (due_among whole (all_known m) s p))
+      go (WriteFirst t q image) i b k ih = at (q == p) b k
+        where
+          before : some (λ d. ends_well t d.call) h ≡ false
+          before = (or_parts (some (λ d. ends_well t d.call) s) _ (sym (some-append (λ d. ends_well t d.call) s h) ∙ not-ended c (s ++ h) e.client e.call e.reply l.before (event-of c (s ++ h) e l.here) t q image i)).1
+
+          at : (x : Bool) → (x || some (λ d. begins_of p d.reply) s) ≡ true → IsSome (if x then due_after (some (λ d. ends_well t d.call) (whole ++ h)) image else due_among (whole ++ h) (all_known m) (s ++ h) p)
+              → IsSome (if x then due_after (some (λ d. ends_well t d.call) whole) image else due_among whole (all_known m) s p)
+          at true b k = subst (λ y. IsSome (due_after y image)) (some-append (λ d. ends_well t d.call) whole h ∙ or-neither _ _ before) k
+          at false b k = ih b k
+      go _ i b k ih = ih b k
+
+  finds-in-piece : (s : Trail) → Legal c (s ++ h) → some (discards p) s ≡ false → FindsKnown (all_known m) p [] s
+  finds-in-piece [] l n = tt
+  finds-in-piece (e ∷ s) l n = (λ i. let r = loads-out c (s ++ h) e.client e.call e.reply (event-of c (s ++ h) e l.here) p i in (at (some (λ x. begins_of p x.reply) s) refl r.0 r.1, r.2), finds-in-piece s l.before k)
+    where
+      k : some (discards p) s ≡ false
+      k = (or_parts (discards p e) (some (discards p) s) n).1
+
+      at : (b : Bool) → some (λ x. begins_of p x.reply) s ≡ b → (t : ℕ) → is_out (record { client = e.client; page = p; serial = t }) (reads_out (s ++ h)) ≡ true → IsSome (due_since (all_known m) (s ++ []) p)
+      at true i t o = subst (λ (x : Trail). IsSome (due_since (all_known m) x p)) (sym (append-nil s)) (known-in-piece s s l.before i (read_end_known c m (s ++ h) e.client p t l.before o (begun-since p s h i k)))
+      at false i t o = subst IsSome (sym (due-kept-all (s ++ []) (all_known m) p s [] i)) refl
+
+  -- Where p was not discarded in a piece, its plain map is its writes.
+  pub plain-in-piece : (s : Trail) → Legal c (s ++ h) → some (discards p) s ≡ false → plain_since m (all_known m) s p ≡ written_into m s p
+  plain-in-piece s l n =
+      ap (λ (x : Trail). plain_since m (all_known m) x p) (sym (append-nil s)) ∙ plain-writes m (all_known m) p [] s n (finds-in-piece s l n) ∙ written-of m p s
+
+-- Where p was never discarded, its plain map is its writes.
+pub plain-is_writes : (c : Parameters) (m : ℕ → List ℕ) (past : Trail) (p : ℕ) → Legal c past → some (discards p) past ≡ false → plain_map m past p ≡ written_into m past p
+plain-is_writes c m past p l n = plain-in-piece c m p [] past (subst (Legal c) (sym (append-nil past)) l) n
 
 discard-begins : (p : ℕ) (e : Entry) → discards p e ≡ true → begins_of p e.reply ≡ false
 discard-begins p e h = go e.reply h

@@ -15,12 +15,12 @@ ghost use Rattle.bp_trail.specs.Clock.{clock, durable};
 ghost use Rattle.bp_trail.specs.Passes.{pass_of, read_ticket_of, write_ticket_of, passes, tickets, passes_out, reads_out, writes_out, is_of, pins};
 ghost use Rattle.bp_trail.specs.Places.{residents, resident, loading, writing};
 ghost use Rattle.bp_trail.specs.Saved.{settles, unsaved, written_since, page_lsn, first_lsn, IsRedoFrom};
-ghost use Rattle.bp_trail.specs.Images.{held, written_into, plain_map};
+ghost use Rattle.bp_trail.specs.Images.{held, written_into, plain_since, plain_map};
 ghost use Rattle.bp_trail.specs.References.{references, forgets, last, hist};
 ghost use Rattle.bp_trail.specs.Victim.{backward_distance, candidate, victim};
 ghost use Rattle.bp_trail.specs.PageMap.{reply_of};
 ghost use Rattle.bp_trail.specs.Legal.{is_out, Legal};
-ghost use Rattle.bp_trail.specs.Device.{due, Honest, HonestOf};
+ghost use Rattle.bp_trail.specs.Device.{due, all_known, Honest, HonestOf};
 ghost use Rattle.bp_trail.specs.Standing.{Standing, standing};
 ghost use Rattle.bp_trail.specs.Cuts.{Precedes, AfterEach, Piece, Chained, joined, ReadsSince};
 ghost use Rattle.bp_trail.specs.Clients.{of_client};
@@ -348,12 +348,15 @@ pub fn standings_decide_what_may_come()
 
 /// Pieces of a trail, each of which opens where the one before it led, are one legal trail when they are joined. Over
 /// a device that was honest of a page since, the reads of it in a piece answer by each plain map that begins with the
-/// image held at its opening.
+/// image held at its opening. Of a page that was not discarded in the piece, that is this image with its writes since.
 pub fn pieces_are_one_legal_trail()
     ensures joined { (c : Parameters) (pieces : List Piece) (next : Standing) →
         Chained c pieces next → Precedes c next (joined pieces) }
     ensures reads { (c : Parameters) (opening : Standing) (trail : Trail) →
         AfterEach c opening trail (Legal c) → ReadsSince c opening trail }
+    ensures writes { (c : Parameters) (m : ℕ → List ℕ) (trail h : Trail) (p : ℕ) →
+        Legal c (trail ++ h) → IsFalse (some (discards p) trail) →
+        plain_since m (all_known m) trail p ≡ written_into m trail p }
 {}
 
 /// The entries of one client in a reversed list are the reverse of those in the list.
