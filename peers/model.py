@@ -205,7 +205,8 @@ def answer(case):
             return f"trace row {number} refused {fault}\n", [], 2, case.file
     pool = Pool(case.its, case.file, case.limit)
     pool.play(case.records)
-    lines = ([] if case.totals else pool.lines) + [f"{name} {count}" for name, count in pool.totals.items()]
+    totals = [f"{name} {count}" for name, count in pool.totals.items() if count or name != "discards"]
+    lines = ([] if case.totals else pool.lines) + totals
     lines += [f"row {number} refused {why}" for number, why in pool.refused]
     return "", lines, int(bool(pool.refused)), case.file and bytes(pool.file)
 

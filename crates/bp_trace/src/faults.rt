@@ -21,7 +21,7 @@ pub enum InputFault {
     BadShape,
     /// The client is not a number from 0 to 63, or in a `log` row not 0.
     BadClient,
-    /// The word of the operation is not one of the eight.
+    /// No operation has this word.
     BadOp,
     /// A page, offset, LSN, number of ticks or reference is not a decimal number within its limits.
     BadNumber,

@@ -46,7 +46,7 @@ fn write_events<W: Write>(entries: &[Entry], writer: &mut W) -> io::Result<Total
 }
 
 /// Writes the report of the entries, oldest first: a line for each eviction, discard, write-out and read, and then the
-/// seven totals.
+/// totals.
 ///
 /// A fault of the writer is passed on; the writer may then hold any part of the report.
 pub fn report<W: Write>(entries: &[Entry], writer: &mut W) -> io::Result<()>
@@ -57,7 +57,7 @@ pub fn report<W: Write>(entries: &[Entry], writer: &mut W) -> io::Result<()>
     write_totals(&totals, writer)
 }
 
-/// Writes only the seven totals of the entries.
+/// Writes only the totals of the entries.
 ///
 /// A fault of the writer is passed on; the writer may then hold any part of the totals.
 pub fn report_totals<W: Write>(entries: &[Entry], writer: &mut W) -> io::Result<()>

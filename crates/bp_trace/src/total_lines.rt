@@ -1,7 +1,7 @@
-//! The seven lines of the totals of a report.
+//! The lines of the totals of a report: six, and one of the discards where there are any.
 ghost use Rattle.std.specs.Prelude.{OnOk};
 ghost use Rattle.std.specs.Io.KnownBytes.{Appends};
-ghost use Rattle.bp_trace.specs.Totals.{total_line, totals_text};
+ghost use Rattle.bp_trace.specs.Totals.{discards_text, total_line, totals_text};
 
 use bp_trail::Totals;
 use std::io;
@@ -18,7 +18,18 @@ pub(crate) fn write_totals<W: Write>(totals: &Totals, writer: &mut W) -> io::Res
     write_total("writes", totals.writes, writer)?;
     write_total("failed", totals.failed, writer)?;
     write_total("refused", totals.refused, writer)?;
-    write_total("discards", totals.discards, writer)
+    write_discards(totals.discards, writer)
+}
+
+#[tactic(auto, unfolding(crate::specs::Totals::discards_text))]
+fn write_discards<W: Write>(count: u64, writer: &mut W) -> io::Result<()>
+    ensures { OnOk result (Appends (W.contents writer.old) (W.contents writer.new)
+        (discards_text count)) }
+{
+    if count == 0 {
+        return Ok(());
+    }
+    write_total("discards", count, writer)
 }
 
 #[tactic(auto, unfolding(crate::specs::Totals::total_line))]

@@ -51,7 +51,7 @@ fn expect_sound<R: Abort>(rt: &R, done: &Outcome, n: u64) {
 
 /// Whichever call of whichever port fails, only that row is refused for it, and no spoiled page is read.
 #[test]
-fn each_call_of_either_port_fails(rt: HostRuntime) {
+fn each_device_call_fails(rt: HostRuntime) {
     let config = config(&rt);
     for (client, spoil) in [(0, false), (0, true), (1, false), (1, true)] {
         for n in 1..13 {

@@ -106,7 +106,7 @@ impl ReportRun {
         Ok(())
     }
 
-    /// Writes the seven totals of all pieces. A fault of the writer is passed on. After a fault in `lines` it fails, and
+    /// Writes the totals of all pieces. A fault of the writer is passed on. After a fault in `lines` it fails, and
     /// writes nothing.
     pub fn totals<W: Write>(self, writer: &mut W) -> io::Result<()>
         ensures written { OnOk result (Appends (W.contents writer.old) (W.contents writer.new)

@@ -52,7 +52,6 @@ evictions 2
 writes 1
 failed 0
 refused 1
-discards 0
 ";
 
 /// Reports entries in pieces of this length; the last may be shorter.
