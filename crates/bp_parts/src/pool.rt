@@ -5,6 +5,7 @@ use bp_core::{Discarded, Flushed};
 use bp_keeper::{ListKeeper, RecordingKeeper};
 use bp_page::{Image, Lsn, PageNo, Refusal};
 use bp_ports::{Port, Store, StripedPort};
+use bp_session_log::{Event, Purge, Tick};
 use bp_shared::PartNames;
 use bp_shared::pool::SharedPool;
 use bp_shared::session::Session;
@@ -49,6 +50,7 @@ impl<N: PartNames + PartCount, K: ListKeeper> PartedPool<N, K> {
     ghost use Rattle.bp_page.specs.declared.refusals.Refusal.TheVariants as Refusal;
     ghost use Rattle.bp_session_log.specs.Turns.{ReadIntoSaid, WriteSaid};
     ghost use Rattle.bp_core.specs.Work.{MadeBlank};
+    ghost use Rattle.bp_shared.specs.Keeping.{Made};
     ghost use Rattle.bp_shared.specs.Sessions.{DoesWorkSaid, PageReadSaid};
     ghost use Rattle.bp_shared.specs.Writing.{WithLsnSeen};
     ghost use Rattle.bp_ports.specs.Stripes.{ReadsStriped, WritesStriped, turned};
@@ -261,6 +263,25 @@ impl<N: PartNames + PartCount, K: ListKeeper> PartedPool<N, K> {
         }
     }
 
+    /// Makes one event in one part, as `SharedPool::make` does.
+    fn make_in<E: Event<K>, R: Wait>(
+        &self,
+        rt: &R,
+        session: &mut PartedSession<N, K>,
+        part: u8,
+        event: E,
+    ) -> Result<E::Answer, Refusal>
+        requires part { part < N.parts }
+        requires may { E.may event session.old.client N.parameters }
+        ensures client { session.new.client ≡ session.old.client }
+        ensures outcome { InPart part session.old session.new (λ old new.
+            Made K.REFUSES N.parameters N.past (E.wants event) (E.does event) (E.says event)
+            (E.cause event) E.passes E.places result old new) }
+    {
+        let mine = &mut session.sessions[part as usize];
+        self.pool_of(mine).make(rt, mine, event)
+    }
+
     /// Forgets old references of one part, as `SharedPool::purge` does, and returns the number of their pages.
     pub fn purge<R: Wait>(
         &self,
@@ -273,8 +294,7 @@ impl<N: PartNames + PartCount, K: ListKeeper> PartedPool<N, K> {
         ensures outcome { InPart part session.old session.new (λ old new.
             PurgesIn K.REFUSES N.parameters N.past result old new) }
     {
-        let mine = &mut session.sessions[part as usize];
-        self.pool_of(mine).purge(rt, mine)
+        self.make_in(rt, session, part, Purge)
     }
 
     /// Moves the clock of one part on, as `SharedPool::tick` does.
@@ -290,8 +310,7 @@ impl<N: PartNames + PartCount, K: ListKeeper> PartedPool<N, K> {
         ensures outcome { InPart part session.old session.new (λ old new.
             TicksIn K.REFUSES N.parameters N.past n result old new) }
     {
-        let mine = &mut session.sessions[part as usize];
-        self.pool_of(mine).tick(rt, mine, n)
+        self.make_in(rt, session, part, Tick(n))
     }
 
     /// Writes a page of the file out in its part, as `SharedPool::flush` does.

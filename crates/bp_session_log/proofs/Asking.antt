@@ -12,7 +12,7 @@ use Rattle.bp_trail.specs.Trail.{Trail}
 use Rattle.bp_trail.specs.Clock.{durable}
 use Rattle.bp_trail.specs.Legal.{Legal}
 use Rattle.bp_core.specs.CoreView.{CoreView, with_entry}
-use Rattle.bp_core.specs.Outcomes.{Adds, FixOutcome, FlushOutcome, DiscardOutcome, ReadEndByOutcome, StepOutcome, TickOutcome, PurgeOutcome, ReadOutcome, WriteOutcome}
+use Rattle.bp_core.specs.Outcomes.{Adds, FixOutcome, FlushOutcome, DiscardOutcome, ReadEndByOutcome, StepOutcome, ReadOutcome, WriteOutcome}
 use Rattle.bp_trail.specs.Event.{Grant}
 use Rattle.bp_trail.specs.Pieces.{by}
 use Rattle.bp_trail.proofs.Events.{Event, event-of}
@@ -20,7 +20,7 @@ use Rattle.bp_trail.proofs.Events.Event.{fix_write, flush_write}
 use Rattle.bp_trail.proofs.Victim.{victim-is, candidate-resident}
 use Rattle.bp_trail.proofs.Ranges.{sized}
 use Rattle.bp_session_log.specs.Books.{Alike}
-use Rattle.bp_session_log.specs.Turns.{LookOutcome, TickSaid, PurgeSaid, ReadSaid, WriteSaid, fix_refuses, flush_refuses, discard_refuses, refusal_reply}
+use Rattle.bp_session_log.specs.Turns.{LookOutcome, ReadSaid, WriteSaid, fix_refuses, flush_refuses, discard_refuses, refusal_reply}
 
 -- the core after an event that may have been refused with no entry
 abbrev pub core_told : CoreView → ℕ → Call → Option Reply → CoreView
@@ -61,16 +61,6 @@ pub mark_refused : (old new : CoreView) (client lsn : ℕ) (why : Refusal) → d
     → AddsNone (LookOutcome {A = Unit {0}} client old lsn (Err why)) old new
 mark_refused old new client lsn refusal.TrailFull above h = record { says = λ said. (above, refl); is = h.1 }
 mark_refused old new client lsn _ above h = absurd h
-
-pub tick_refused : (old new : CoreView) (client n : ℕ) (why : Refusal) → TickOutcome {A = Unit {0}} old client n (Err why) new
-    → AddsNone (TickSaid {A = Unit {0}} client n (Err why)) old new
-tick_refused old new client n refusal.TrailFull h = record { says = λ said. refl; is = h.1 }
-tick_refused old new client n refusal.ClockFull h = record { says = λ said. refl; is = h.2 }
-tick_refused old new client n _ h = absurd h
-
-pub purge_refused : (old new : CoreView) (client : ℕ) (why : Refusal) → PurgeOutcome old client (Err why) new → AddsNone (PurgeSaid client (Err why)) old new
-purge_refused old new client refusal.TrailFull h = record { says = λ said. refl; is = h.1 }
-purge_refused old new client _ h = absurd h
 
 pub read_refused : (old new : CoreView) (client : ℕ) (pass : Pass) (why : Refusal) → pass.client ≡ client → ReadOutcome old pass (Err why) new
     → AddsNone (ReadSaid client pass (Err why)) old new

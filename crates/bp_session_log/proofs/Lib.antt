@@ -1,4 +1,5 @@
 pub mod Asking
+pub mod Making
 pub mod Reading
 pub mod Ending
 pub mod Posting

@@ -1,6 +1,6 @@
 -- What the core answers where a client's list asks it: which entry it adds, and when each refusal
 -- comes.
-use Rattle.std.specs.Prelude.{◌≡◌, ◌⊎◌, ◌≤◌, ◌<◌, ℕ, List, Result, Ok, Err, IsOk}
+use Rattle.std.specs.Prelude.{◌≡◌, ◌⊎◌, ◌≤◌, ◌<◌, ℕ, List, Result, Ok, Err, IsOk, IsErr}
 use Rattle.bp_page.specs.declared.refusals.Refusal.{Refusal}
 use Rattle.bp_page.specs.declared.refusals.Refusal.TheVariants as refusal
 use Rattle.bp_page.specs.declared.refusals.PortFault.{PortFault}
@@ -47,6 +47,24 @@ AsksFix client page answer old new = FixOutcome old client page (fixed_by_core a
 
 abbrev pub AsksFlush : ℕ → ℕ → Result Flushing Refusal → CoreView → CoreView → Type 0
 AsksFlush client page answer old new = FlushOutcome old client page (flushed_by_core answer) new
+
+-- a look that was not refused
+abbrev pub not_refused : Result (Unit {0}) Refusal
+not_refused = Ok tt
+
+-- a look, and where it is not refused one event after it
+abbrev pub LooksFirst : {A : Type 0} → ℕ → ℕ → Result A Refusal → (CoreView → CoreView → Type 0)
+    → CoreView → CoreView → Type 0
+LooksFirst client seen answer Event core new =
+    (IsErr answer × Looks client seen core answer new)
+    ⊎ ((looked : CoreView) × Looks client seen core not_refused looked × Event looked new)
+
+-- a fix, and a flush, after a look that saw this LSN
+abbrev pub FixStep : ℕ → ℕ → ℕ → Result Fixing Refusal → CoreView → CoreView → Type 0
+FixStep client page seen answer = LooksFirst client seen answer (AsksFix client page answer)
+
+abbrev pub FlushStep : ℕ → ℕ → ℕ → Result Flushing Refusal → CoreView → CoreView → Type 0
+FlushStep client page seen answer = LooksFirst client seen answer (AsksFlush client page answer)
 
 -- the end of a read: a ticket is forfeited only where the core does not know it
 abbrev pub EndsRead : CoreView → ReadTicket → Result (List ℕ) PortFault → Result Pass Refusal

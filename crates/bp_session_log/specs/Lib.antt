@@ -2,6 +2,7 @@
 pub mod Books
 pub mod Turns
 pub mod Causes
+pub mod Events
 pub mod Rings
 -- What a board and its lines own, and what each call does.
 pub mod Owned

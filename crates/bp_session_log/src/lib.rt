@@ -17,11 +17,13 @@
 pub mod boards;
 pub mod book;
 pub mod draining;
+pub mod events;
 pub mod pending;
 mod posted;
 
 pub use boards::{Board, Line, Shows};
 pub use book::{Book, Room};
 pub use draining::drain_all;
+pub use events::{AskFix, AskFlush, Discard, Event, Purge, Tick};
 pub use pending::{Fix, Flush, PendingRead, PendingWrite};
 pub use posted::Posted;

@@ -1,9 +1,8 @@
 -- What a session's sections show it, call after call.
-use Rattle.std.proofs.Common.{◌≡◌, refl, sym, ap, subst, ◌∙◌, ℕ, ◌≤◌, ◌<◌, ◌+◌, ◌^◌, ◌++◌, append_assoc, length, arith, Result, Ok, Err, IsOk, inl, inr}
+use Rattle.std.proofs.Common.{◌≡◌, ◌⊎◌, refl, sym, ap, subst, ◌∙◌, ℕ, ◌≤◌, ◌<◌, ◌+◌, ◌^◌, ◌++◌, append_assoc, length, arith, Result, Ok, Err, IsOk, inl, inr}
 use Rattle.std.proofs.lemmas.Bool.{cases_lt}
 use Rattle.bp_page.specs.declared.refusals.Refusal.{Refusal}
 use Rattle.bp_page.specs.declared.refusals.Refusal.TheVariants as refusal
-use Rattle.bp_trail.specs.Clock.{clock}
 use Rattle.bp_trail.specs.Legal.{Legal}
 use Rattle.bp_trail.specs.Parameters.{Parameters}
 use Rattle.bp_trail.specs.Trail.{Trail}
@@ -58,9 +57,6 @@ pub fills : (n m : ℕ) (c : Parameters) (core after : CoreView) (seen : Trail) 
 fills n m c core after seen are few lacks same is =
     let past : seen ≡ core.past = is ∙ ap (λ (v : CoreView). v.past) same in
     subst (λ p. FillsRoom m p seen) are (subst (λ s. FillsRoom m core.parameters s) (sym past) (omega (arith, few, lacks)))
-
-pub ran_over : (n : ℕ) (core after : CoreView) (seen : Trail) → 2 ^ 62 < clock core.past + n → after ≡ core → seen ≡ after.past → 2 ^ 62 < clock seen + n
-ran_over n core after seen over same is = subst (λ s. 2 ^ 62 < clock s + n) (sym (is ∙ ap (λ (v : CoreView). v.past) same)) over
 
 -- after other events of the section a pass was given back
 pub gave_back : (c : Parameters) (start : Trail) (old mid new : SessionValue) (after : CoreView) → old.free ≤ 32 → mid.part ≡ old.part → GoesOnFrom old.seen mid.seen → new.part ≡ mid.part → new.free ≡ 32 → after.parameters ≡ c → Legal after.parameters after.past → new.seen ≡ after.past
@@ -134,3 +130,11 @@ too_long said after same not = subst (λ (es : Trail). 2 ^ 61 ≤ length es) (sy
 -- a look at the trail leaves the room
 pub still_roomy : (c : Parameters) (start : Trail) (old new : SessionValue) → Sees c start old new → IsRoomy old → IsRoomy new
 still_roomy c start old new s was = (omega (arith, ap (λ (v : SessionValue). v.passes) s.same, was.0), omega (arith, ap (λ (v : SessionValue). v.places) s.same, was.1))
+
+-- a section that took no room
+pub roomy_still : (old new : SessionValue) → old.passes ≤ new.passes + 0 → old.places ≤ new.places + 0 → IsRoomy old → IsRoomy new
+roomy_still old new passes places had = (omega (arith, passes, had.0), omega (arith, places, had.1))
+
+pub or_never : {A : Type 0} → A ⊎ ⊥ → A
+or_never (inl a) = a
+or_never (inr never) = absurd never

@@ -1,6 +1,5 @@
 -- A discard, turn by turn: each is one event, with no look at the mark.
-use Rattle.std.proofs.Common.{◌≡◌, ◌≢◌, refl, sym, ap, subst, ◌∙◌, ℕ, true, false, [], ◌∷◌, ◌++◌, None, Result, Ok, Err}
-use Rattle.std.specs.Prelude.{IsErrAnd}
+use Rattle.std.proofs.Common.{◌≡◌, ◌≢◌, refl, ap, ◌∙◌, ℕ, true, false, [], ◌∷◌, ◌++◌, None, Ok, Err}
 use Rattle.bp_page.specs.declared.refusals.Refusal.{Refusal}
 use Rattle.bp_page.specs.declared.refusals.Refusal.TheVariants as refusal
 use Rattle.bp_trail.specs.declared.entries.Call.TheVariants.{Discard}
@@ -28,11 +27,6 @@ gives_none client page _ (waited i p) = gives_none client page _ p
 
 pub waits_none : (client page : ℕ) (said : Trail) → DiscardWaits client page said said
 waits_none client page said = record { piece = []; goes_on = begins; grows = refl }
-
--- a turn for which there was no memory
-pub discard_no_memory : (client page : ℕ) (answer : Result Discarded Refusal) (why : Refusal) (said after : Trail) → IsErrAnd answer (λ r. r ≡ why) → why ≡ refusal.OutOfMemory → after ≡ said → DiscardTurn client page answer said after
-discard_no_memory client page (Ok done) why said after is memory same = absurd is
-discard_no_memory client page (Err r) why said after is memory same = subst (λ r. DiscardTurn client page (Err r) said after) (sym (is ∙ memory)) (refl, same)
 
 -- one turn more
 pub busy_waits : (client page : ℕ) (said mid after : Trail) → DiscardWaits client page said mid → DiscardTurn client page (Err refusal.Busy) mid after → DiscardWaits client page said after

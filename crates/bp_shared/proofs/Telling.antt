@@ -31,12 +31,14 @@ use Rattle.bp_session_log.specs.declared.boards.Line.{Line}
 use Rattle.bp_session_log.specs.Rings.{GoBack, RingView, DrainsRings}
 use Rattle.bp_session_log.specs.Rings.GoBack.{none_taken, next_taken}
 use Rattle.bp_session_log.specs.Rings.DrainsRings.{none_left, next_ring}
+use Rattle.bp_session_log.specs.Events.{Makes}
+use Rattle.bp_session_log.proofs.Making.{OneMore, not_longer, first_client}
 use Rattle.bp_session_log.specs.Books.{BookValue, Alike, Tells, OwesRead, OwesWrite, pass_unfixed, unfixes}
 use Rattle.bp_session_log.specs.declared.pending.Fix.{Fix as Fixing}
 use Rattle.bp_session_log.specs.declared.pending.Fix.TheVariants as fixing
 use Rattle.bp_session_log.specs.declared.pending.Flush.{Flush as Flushing}
 use Rattle.bp_session_log.specs.declared.pending.Flush.TheVariants as flushing
-use Rattle.bp_session_log.specs.Turns.{LookOutcome, refusal_reply, and_told, AskFixOutcome, AskFlushOutcome, DiscardTurn, ReadSaid, ReadIntoSaid, WriteSaid, TickSaid, PurgeSaid, EndReadOutcome, EndWriteOutcome}
+use Rattle.bp_session_log.specs.Turns.{LookOutcome, refusal_reply, and_told, AskFixOutcome, AskFlushOutcome, ReadSaid, ReadIntoSaid, WriteSaid, EndReadOutcome, EndWriteOutcome}
 use Rattle.bp_shared.specs.Posting.{IsUnfixedBy, TakesBack}
 use Rattle.bp_shared.specs.Telling.{is_told, told, IsLineOf, IsShown, IsToldBy, IsListOf, IsBlank, GoesOnFrom, AreEarlier}
 
@@ -114,10 +116,6 @@ none_own c d (e ∷ es) apart own =
     of_client-miss c e es (λ same. apart (sym same ∙ All-head (λ e. e.client ≡ d) e es own)) ∙ none_own c d es apart (All-tail (λ e. e.client ≡ d) e es own)
 
 -- ---- the entries that a call adds are its client's
--- a list got one entry of the client's, or none
-abbrev pub OneMore : ℕ → Trail → Trail → Type 0
-OneMore client said after = (after ≡ said) ⊎ ((call : Call) × (reply : Reply) × (after ≡ by client call reply ∷ said))
-
 -- the trail and the list got the same entries, all of them the client's
 pub record Adds (client : ℕ) (past said after told_after : Trail) : Type 0 where
   pub piece : Trail
@@ -128,17 +126,10 @@ pub record Adds (client : ℕ) (past said after told_after : Trail) : Type 0 whe
 pub adds_none : (client : ℕ) (past said : Trail) → Adds client past said past said
 adds_none client past said = record { piece = []; goes_on = refl; grows = refl; own = All-nil (λ e. e.client ≡ client) }
 
-not_longer : (e : Entry) (es : Trail) → es ≡ e ∷ es → ⊥
-not_longer e es is = let long = ap length is in absurd (omega arith)
-
 -- a list that got nothing: nor did the trail
 pub same_core : (old new : CoreView) (said after : Trail) → Alike old said new after → after ≡ said → new ≡ old
 same_core old new said after (inl a) same = a.0
 same_core old new said after (inr a) same = absurd (not_longer a.0 said (sym same ∙ a.2))
-
-abbrev first_client : ℕ → Trail → ℕ
-first_client d [] = d
-first_client d (e ∷ es) = e.client
 
 pub adds_one : (client : ℕ) (old new : CoreView) (said after : Trail) → Alike old said new after → OneMore client said after → Adds client old.past said new.past after
 adds_one client old new said after (inl a) more = record { piece = []; goes_on = ap (λ (core : CoreView). core.past) a.0; grows = a.1; own = All-nil (λ e. e.client ≡ client) }
@@ -158,44 +149,9 @@ adds_both client past said mid marked after told_after a b = record {
   own = All-append (λ e. e.client ≡ client) b.piece a.piece b.own a.own;
 }
 
-pub look_one : {A : Type 0} (client seen : ℕ) (core : CoreView) (answer : Result A Refusal) (said after : Trail) → LookOutcome client core seen answer said after → OneMore client said after
-look_one client seen core (Ok done) said after (inl h) = inl h.1
-look_one client seen core (Ok done) said after (inr h) = inr (Mark seen, Done, h.1)
-look_one client seen core (Err refusal.TrailFull) said after h = inl h.1
-look_one client seen core (Err _) said after h = absurd h
-
-and_told_one : (client : ℕ) (call : Call) (reply : Option Reply) (said after : Trail) → after ≡ and_told client call reply said → OneMore client said after
-and_told_one client call None said after is = inl is
-and_told_one client call (Some reply) said after is = inr (call, reply, is)
-
-pub ask_fix_one : (client page : ℕ) (answer : Result Fixing Refusal) (said after : Trail) → AskFixOutcome client page answer said after → OneMore client said after
-ask_fix_one client page (Ok (fixing.Hit pass)) said after h = inr (Fix page, Hit pass.serial, h.2)
-ask_fix_one client page (Ok (fixing.Load ticket evicted)) said after h = inr (Fix page, Load ticket.serial evicted, h.2)
-ask_fix_one client page (Ok (fixing.WriteFirst ticket)) said after h = inr (Fix page, WriteFirst ticket.serial ticket.page ticket.image, h.1)
-ask_fix_one client page (Err why) said after h = and_told_one client (Fix page) (refusal_reply why) said after h.1
-
-pub ask_flush_one : (client page : ℕ) (answer : Result Flushing Refusal) (said after : Trail) → AskFlushOutcome client page answer said after → OneMore client said after
-ask_flush_one client page (Ok flushing.Clean) said after h = inr (Flush page, Clean, h)
-ask_flush_one client page (Ok flushing.Absent) said after h = inr (Flush page, Absent, h)
-ask_flush_one client page (Ok (flushing.WriteFirst ticket)) said after h = inr (Flush page, WriteFirst ticket.serial ticket.page ticket.image, h.2)
-ask_flush_one client page (Err why) said after h = and_told_one client (Flush page) (refusal_reply why) said after h.1
-
-pub discard_one : (client page : ℕ) (answer : Result Discarded Refusal) (said after : Trail) → DiscardTurn client page answer said after → OneMore client said after
-discard_one client page (Ok how) said after h = inr (Discard page, discarded_reply how, h)
-discard_one client page (Err why) said after h = and_told_one client (Discard page) (refusal_reply why) said after h.1
-
-pub tick_one : {A : Type 0} (client n : ℕ) (answer : Result A Refusal) (said after : Trail) → TickSaid client n answer said after → OneMore client said after
-tick_one client n (Ok done) said after h = inr (Tick n, Done, h)
-tick_one client n (Err refusal.TrailFull) said after h = inl h
-tick_one client n (Err refusal.ClockFull) said after h = inl h
-tick_one client n (Err refusal.OutOfMemory) said after h = inl h
-tick_one client n (Err _) said after h = absurd h
-
-pub purge_one : (client : ℕ) (answer : Result ℕ Refusal) (said after : Trail) → PurgeSaid client answer said after → OneMore client said after
-purge_one client (Ok n) said after h = inr (Purge, Forgot n, h)
-purge_one client (Err refusal.TrailFull) said after h = inl h
-purge_one client (Err refusal.OutOfMemory) said after h = inl h
-purge_one client (Err _) said after h = absurd h
+-- the entries of an event
+pub made : (core left : CoreView) (book kept : BookValue) → Makes core book left kept → Adds book.client core.past book.said left.past kept.said
+made core left book kept m = record { piece = m.piece; goes_on = ap (λ (v : CoreView). v.past) m.is; grows = m.grows; own = m.own }
 
 pub read_one : (client : ℕ) (pass : Pass) (answer : Result (List ℕ) Refusal) (said after : Trail) → ReadSaid client pass answer said after → OneMore client said after
 read_one client pass (Ok image) said after h = inr (Read pass.serial pass.page, Content image, h.1)

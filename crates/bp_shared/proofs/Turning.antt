@@ -13,8 +13,7 @@ use Rattle.bp_trail.specs.Pieces.{by, FixGoesOn, FlushGoesOn}
 use Rattle.bp_trail.specs.Pieces.Manner.{session}
 use Rattle.bp_trail.specs.Pieces.FixGoesOn.{begins as fix_begins, marked as fix_marked_by}
 use Rattle.bp_trail.specs.Pieces.FlushGoesOn.{begins as flush_begins, marked as flush_marked_by}
-use Rattle.bp_session_log.specs.Turns.{LookOutcome, MarksOnce, AskFixOutcome, AskFlushOutcome, FixTurn, FlushTurn}
-use Rattle.bp_shared.proofs.Stepping.{err, not_looked}
+use Rattle.bp_session_log.specs.Turns.{LookOutcome, MarksOnce, AskFixOutcome, AskFlushOutcome, FlushTurn}
 
 -- marks and waits so far, after which the fix or the flush goes on
 pub record FixWaits (client page : ℕ) (said after : Trail) : Type 0 where
@@ -45,23 +44,3 @@ fix_marked client page said after (inr m) = record { piece = by client (Mark m.0
 pub flush_marked : (client page : ℕ) (said after : Trail) → MarksOnce client said after → FlushWaits client page said after
 flush_marked client page said after (inl same) = record { piece = []; goes_on = flush_begins; grows = same }
 flush_marked client page said after (inr m) = record { piece = by client (Mark m.0) Done ∷ []; goes_on = flush_marked_by m.0 refl flush_begins; grows = m.1 }
-
--- a turn whose look was refused
-pub fix_not_looked : (A : Type 0) (client page seen : ℕ) (core : CoreView) (why : Refusal) (said after : Trail) → LookOutcome client core seen (err A why) said after → FixTurn client page (Err why) said after
-fix_not_looked A client page seen core why said after h =
-    let n = not_looked A client seen core why said after h in
-    record { marked = said; marks = inl refl; asks = subst (λ r. AskFixOutcome client page (Err r) said after) (sym n.0) (refl, n.1) }
-
-pub flush_not_looked : (A : Type 0) (client page seen : ℕ) (core : CoreView) (why : Refusal) (said after : Trail) → LookOutcome client core seen (err A why) said after → FlushTurn client page (Err why) said after
-flush_not_looked A client page seen core why said after h =
-    let n = not_looked A client seen core why said after h in
-    record { marked = said; marks = inl refl; asks = subst (λ r. AskFlushOutcome client page (Err r) said after) (sym n.0) (refl, n.1) }
-
--- a turn for which there was no memory
-pub fix_no_memory : (client page : ℕ) (answer : Result Fixing Refusal) (why : Refusal) (said after : Trail) → IsErrAnd answer (λ r. r ≡ why) → why ≡ refusal.OutOfMemory → after ≡ said → FixTurn client page answer said after
-fix_no_memory client page (Ok fix) why said after is memory same = absurd is
-fix_no_memory client page (Err r) why said after is memory same = rw (is, memory) (record { marked = said; marks = inl refl; asks = (refl, same) })
-
-pub flush_no_memory : (client page : ℕ) (answer : Result Flushing Refusal) (why : Refusal) (said after : Trail) → IsErrAnd answer (λ r. r ≡ why) → why ≡ refusal.OutOfMemory → after ≡ said → FlushTurn client page answer said after
-flush_no_memory client page (Ok flush) why said after is memory same = absurd is
-flush_no_memory client page (Err r) why said after is memory same = rw (is, memory) (record { marked = said; marks = inl refl; asks = (refl, same) })

@@ -38,6 +38,9 @@ wrong fault.WrongPage h = refl
 wrong fault.Device h = absurd (let no : refusal.ReadFailed ≡ refusal.WrongPage = h in cc)
 wrong fault.Memory h = absurd (let no : refusal.ReadFailed ≡ refusal.WrongPage = h in cc)
 
+pub ok-is-no-err : {A : Type 0} (x : A) (why : Refusal) → Ok x ≢ err A why
+ok-is-no-err x why is = cc
+
 module _ {A : Type 0} (reads : Reads A) (writes : Writes A) where
   pub none-yet : (said : Trail) (port : A) → DoesWorkSaid reads writes said said port port
   none-yet said port = record { piece = []; grows = refl; through = refl }

@@ -1,11 +1,11 @@
 -- The page LSN of a write-out, from its begin on.
-use Rattle.std.proofs.Common.{◌≡◌, refl, ap, subst, ◌∙◌, ℕ, List, [], ◌∷◌, ◌++◌, Result, Ok, Err, inl, inr}
+use Rattle.std.proofs.Common.{◌≡◌, refl, ap, subst, ◌∙◌, ℕ, true, false, List, [], ◌∷◌, ◌++◌, Result, Ok, Err, inl, inr}
 use Rattle.bp_page.specs.declared.refusals.Refusal.{Refusal}
 use Rattle.bp_page.specs.declared.refusals.PortFault.{PortFault}
 use Rattle.bp_trail.specs.declared.entries.Call.{Call}
-use Rattle.bp_trail.specs.declared.entries.Call.TheVariants.{Fix, Flush, ReadEnd, WriteEnd}
+use Rattle.bp_trail.specs.declared.entries.Call.TheVariants.{Mark, Fix, Flush, ReadEnd, WriteEnd}
 use Rattle.bp_trail.specs.declared.entries.Reply.{Reply}
-use Rattle.bp_trail.specs.declared.entries.Reply.TheVariants.{WriteFirst}
+use Rattle.bp_trail.specs.declared.entries.Reply.TheVariants.{Done, WriteFirst}
 use Rattle.bp_trail.specs.Parameters.{Parameters}
 use Rattle.bp_trail.specs.Trail.{Trail}
 use Rattle.bp_trail.specs.Pieces.{by}
@@ -19,9 +19,9 @@ use Rattle.bp_session_log.specs.declared.pending.Fix.{Fix as Fixing}
 use Rattle.bp_session_log.specs.declared.pending.Fix.TheVariants as fixing
 use Rattle.bp_session_log.specs.declared.pending.Flush.{Flush as Flushing}
 use Rattle.bp_session_log.specs.declared.pending.Flush.TheVariants as flushing
-use Rattle.bp_session_log.specs.Causes.{AsksFix, AsksFlush}
+use Rattle.bp_session_log.specs.Causes.{Looks, AsksFix, AsksFlush, FixStep, FlushStep, not_refused}
 use Rattle.bp_session_log.specs.Turns.{WriteOutOutcome}
-use Rattle.bp_shared.specs.Keeping.{MayAct}
+use Rattle.bp_shared.specs.Keeping.{MayAct, Saw}
 use Rattle.bp_shared.specs.Sessions.{SessionValue, WithSomeLsn, DoesWorkSaid}
 use Rattle.bp_shared.specs.Telling.{GoesOnFrom}
 use Rattle.bp_shared.specs.Writing.{Began, FixBegins, FlushBegins, WithLsnSeen}
@@ -56,17 +56,38 @@ begins client call from seen core after ticket on lsn adds is = record {
   lsn_is = lsn;
 }
 
-pub fix_begins : (client page : ℕ) (from seen : Trail) (core after : CoreView) (answer : Result Fixing Refusal) → GoesOnFrom from core.past → AsksFix client page answer core after → seen ≡ after.past → FixBegins client from answer seen
+fix_begins : (client page : ℕ) (from seen : Trail) (core after : CoreView) (answer : Result Fixing Refusal) → GoesOnFrom from core.past → AsksFix client page answer core after → seen ≡ after.past → FixBegins client from answer seen
 fix_begins client page from seen core after (Ok (fixing.WriteFirst ticket)) on asks is = begins client (Fix page) from seen core after ticket on asks.2 asks.3 is
 fix_begins client page from seen core after (Ok (fixing.Hit pass)) on asks is = tt
 fix_begins client page from seen core after (Ok (fixing.Load ticket evicted)) on asks is = tt
 fix_begins client page from seen core after (Err why) on asks is = tt
 
-pub flush_begins : (client page : ℕ) (from seen : Trail) (core after : CoreView) (answer : Result Flushing Refusal) → GoesOnFrom from core.past → AsksFlush client page answer core after → seen ≡ after.past → FlushBegins client from answer seen
+-- after a look
+look_on : (client durable : ℕ) (core looked : CoreView) → Looks client durable core not_refused looked → GoesOnFrom core.past looked.past
+look_on client durable core looked (inl h) = ([], ap (λ (v : CoreView). v.past) h.2)
+look_on client durable core looked (inr h) = (by client (Mark durable) Done ∷ [], ap (λ (v : CoreView). v.past) h.1.1.is)
+
+pub fix_saw : (client page : ℕ) (answer : Result Fixing Refusal) (old new : SessionValue) → Saw (λ durable. FixStep client page durable answer) old new → FixBegins client old.seen answer new.seen
+fix_saw client page (Err why) old new s = tt
+fix_saw client page (Ok how) old new s = go s.event
+  where
+    go : FixStep client page s.durable (Ok how) s.core s.after → FixBegins client old.seen (Ok how) new.seen
+    go (inl h) = absurd (let no : false ≡ true = h.0 in cc)
+    go (inr h) = fix_begins client page old.seen new.seen h.0 s.after (Ok how) (seen_on old.seen s.core.past h.0.past s.goes_on (look_on client s.durable s.core h.0 h.1)) h.2 s.seen_is
+
+flush_begins : (client page : ℕ) (from seen : Trail) (core after : CoreView) (answer : Result Flushing Refusal) → GoesOnFrom from core.past → AsksFlush client page answer core after → seen ≡ after.past → FlushBegins client from answer seen
 flush_begins client page from seen core after (Ok (flushing.WriteFirst ticket)) on asks is = begins client (Flush page) from seen core after ticket on asks.3 asks.4 is
 flush_begins client page from seen core after (Ok flushing.Clean) on asks is = tt
 flush_begins client page from seen core after (Ok flushing.Absent) on asks is = tt
 flush_begins client page from seen core after (Err why) on asks is = tt
+
+pub flush_saw : (client page : ℕ) (answer : Result Flushing Refusal) (old new : SessionValue) → Saw (λ durable. FlushStep client page durable answer) old new → FlushBegins client old.seen answer new.seen
+flush_saw client page (Err why) old new s = tt
+flush_saw client page (Ok how) old new s = go s.event
+  where
+    go : FlushStep client page s.durable (Ok how) s.core s.after → FlushBegins client old.seen (Ok how) new.seen
+    go (inl h) = absurd (let no : false ≡ true = h.0 in cc)
+    go (inr h) = flush_begins client page old.seen new.seen h.0 s.after (Ok how) (seen_on old.seen s.core.past h.0.past s.goes_on (look_on client s.durable s.core h.0 h.1)) h.2 s.seen_is
 
 -- ---- the same work, as another relation has it
 module _ {A : Type 0} (reads : Reads A) (ws vs : Writes A) (weak : (port : A) (page : ℕ) (image : List ℕ) (lsn : ℕ) (written : Result (Unit {0}) PortFault) (after : A) → ws port page image lsn written after → vs port page image lsn written after) where

@@ -1,17 +1,16 @@
 -- What a call of a session leaves as it was, and what its sections show it of the trail.
-use Rattle.std.specs.Prelude.{◌≡◌, ◌⊎◌, ℕ, ◌<◌, ◌≤◌, true, false, List, Result, Err, length}
+use Rattle.std.specs.Prelude.{◌≡◌, ◌≢◌, ◌⊎◌, ℕ, ◌+◌, ◌≤◌, Bool, false, List, Result, Err}
 use Rattle.bp_page.specs.declared.refusals.Refusal.{Refusal}
 use Rattle.bp_page.specs.declared.refusals.Refusal.TheVariants as refusal
-use Rattle.bp_trail.specs.declared.entries.Call.{Call}
 use Rattle.bp_trail.specs.Legal.{Legal}
-use Rattle.bp_trail.specs.PageMap.{reply_of}
 use Rattle.bp_trail.specs.Parameters.{Parameters}
 use Rattle.bp_trail.specs.Places.{resident}
-use Rattle.bp_trail.specs.Room.{free_keeping}
 use Rattle.bp_trail.specs.Trail.{Trail}
-use Rattle.bp_core.specs.Outcomes.{takes_memory}
+use Rattle.bp_session_log.specs.declared.book.Room.{Room}
+pub use Rattle.bp_session_log.specs.Events.{FillsRoom, WantsMemory}
 use Rattle.bp_session_log.specs.Turns.{and_read}
-use Rattle.bp_shared.specs.Sessions.{SessionValue, IsRoomy}
+use Rattle.bp_core.specs.CoreView.{CoreView}
+use Rattle.bp_shared.specs.Sessions.{SessionValue, IsLong, IsRoomy}
 use Rattle.bp_shared.specs.Telling.{GoesOnFrom, IsListOf}
 
 -- the session, of the same pool, made no section, and its list got nothing
@@ -74,10 +73,33 @@ pub record WasAway (start : Trail) (page : ℕ) (old new : SessionValue) : Type 
 abbrev pub IsReadAtOnce : Trail → ℕ → SessionValue → SessionValue → Type 0
 IsReadAtOnce start page old new = EndsInRead page old new ⊎ WasAway start page old new
 
--- the entries of a trail, and what is owed after them, leave less room than for so many more
-abbrev pub FillsRoom : ℕ → Parameters → Trail → Type 0
-FillsRoom n c past = free_keeping c (length past) past < n
+-- a section of the session made the core do this, by which a look at the mark saw so much of the log,
+-- after a trail that goes on from what the session had seen; and it showed the session the trail then
+pub record Saw (does : ℕ → CoreView → CoreView → Type 0) (old new : SessionValue) : Type 0 where
+  pub durable : ℕ
+  pub core : CoreView
+  pub after : CoreView
+  pub goes_on : GoesOnFrom old.seen core.past
+  pub event : does durable core after
+  pub seen_is : new.seen ≡ after.past
 
--- the lawful reply to this call, after these entries, takes memory
-abbrev pub WantsMemory : Call → Parameters → Trail → Type 0
-WantsMemory call c past = takes_memory (reply_of c past call) ≡ true
+-- what an event did, by what its kind says of the core, of the list, of its refusals and of the room that
+-- it wants and takes: it was made, or refused for want of memory, maybe before it was made
+pub record Made {A : Type 0} (refuses : Bool) (c : Parameters) (start : Trail) (wants : Room)
+    (does : ℕ → ℕ → Result A Refusal → CoreView → CoreView → Type 0)
+    (says : ℕ → Result A Refusal → Trail → Trail → Type 0)
+    (cause : Refusal → Parameters → Trail → Type 0) (passes places : Result A Refusal → ℕ)
+    (answer : Result A Refusal) (old new : SessionValue) : Type 0 where
+  pub client : new.client ≡ old.client
+  pub before : new.before ≡ old.before
+  pub acts : Acts c start answer old new
+  pub outcome : says old.client answer old.said new.said
+  pub saw : answer ≢ Err refusal.OutOfMemory
+      → Saw (λ durable. does old.client durable answer) old new
+  pub passes_left : old.passes ≤ new.passes + passes answer
+  pub places_left : old.places ≤ new.places + places answer
+  pub had : answer ≢ Err refusal.OutOfMemory → (wants.passes ≤ new.passes + passes answer)
+      × (wants.copies ≤ new.places + places answer)
+  pub why : (why : Refusal) → answer ≡ Err why → why ≢ refusal.OutOfMemory → cause why c new.seen
+  pub memory : refuses ≡ false → wants.passes ≤ old.passes → wants.copies ≤ old.places
+      → answer ≡ Err refusal.OutOfMemory → IsLong new ⊎ cause refusal.OutOfMemory c new.seen

@@ -1,15 +1,12 @@
 -- What the locked state and a session's list have in common.
-use Rattle.std.specs.Prelude.{◌≡◌, ℕ, ◌≤◌, List, ◌++◌, ◌⊎◌, Result, Ok, IsErr}
-use Rattle.bp_page.specs.declared.refusals.Refusal.{Refusal}
+use Rattle.std.specs.Prelude.{◌≡◌, ℕ, ◌≤◌, List, ◌++◌}
 use Rattle.bp_mark.specs.Marks.{MarkName, ReaderValue}
 use Rattle.bp_trail.specs.Parameters.{Parameters}
 use Rattle.bp_trail.specs.Trail.{Trail}
 use Rattle.bp_trail.specs.Clock.{durable}
 use Rattle.bp_trail.specs.Legal.{Legal}
 use Rattle.bp_core.specs.CoreView.{CoreView}
-use Rattle.bp_session_log.specs.declared.pending.Fix.{Fix as Fixing}
-use Rattle.bp_session_log.specs.declared.pending.Flush.{Flush as Flushing}
-use Rattle.bp_session_log.specs.Causes.{Looks, AsksFix, AsksFlush}
+pub use Rattle.bp_session_log.specs.Causes.{not_refused, LooksFirst, FixStep, FlushStep}
 use Rattle.bp_session_log.specs.Rings.{RingView, DrainsRings}
 use Rattle.bp_shared.specs.Sessions.{SessionValue}
 use Rattle.bp_shared.specs.Posting.{TakesBack}
@@ -81,21 +78,3 @@ pub record InStep (Event : CoreView → CoreView → Type 0) (old : LockedValue)
   pub piece : Trail
   pub is : new.core ≡ record old.core { past = piece ++ old.core.past }
   pub grows : after ≡ piece ++ said
-
--- a look that was not refused
-abbrev pub not_refused : Result (Unit {0}) Refusal
-not_refused = Ok tt
-
--- a look, and where it is not refused one event after it
-abbrev pub LooksFirst : {A : Type 0} → ℕ → ℕ → Result A Refusal → (CoreView → CoreView → Type 0)
-    → CoreView → CoreView → Type 0
-LooksFirst client seen answer Event core new =
-    (IsErr answer × Looks client seen core answer new)
-    ⊎ ((looked : CoreView) × Looks client seen core not_refused looked × Event looked new)
-
--- a fix, and a flush, after a look that saw this LSN
-abbrev pub FixStep : ℕ → ℕ → ℕ → Result Fixing Refusal → CoreView → CoreView → Type 0
-FixStep client page seen answer = LooksFirst client seen answer (AsksFix client page answer)
-
-abbrev pub FlushStep : ℕ → ℕ → ℕ → Result Flushing Refusal → CoreView → CoreView → Type 0
-FlushStep client page seen answer = LooksFirst client seen answer (AsksFlush client page answer)

@@ -32,6 +32,7 @@ mod discarding;
 mod fixing;
 mod flush_all;
 mod flushing;
+mod making;
 mod pieces;
 mod reading;
 mod single;

@@ -5,10 +5,10 @@ ghost use Rattle.bp_trail.specs.declared.entries.Call.TheVariants as Call;
 ghost use Rattle.bp_trail.specs.declared.entries.Reply.TheVariants as Reply;
 ghost use Rattle.bp_trail.specs.Clock.{durable};
 ghost use Rattle.bp_session_log.specs.Books.{AddsAlike, KeepsBook};
-ghost use Rattle.bp_session_log.specs.Turns.{LookOutcome, AskFixOutcome, AskFlushOutcome, DiscardTurn};
+ghost use Rattle.bp_session_log.specs.Turns.{LookOutcome, AskFixOutcome, AskFlushOutcome};
 ghost use Rattle.bp_session_log.specs.Turns.{passes_taken, places_taken, tickets_taken};
-ghost use Rattle.bp_session_log.specs.Turns.{TickSaid, PurgeSaid, ReadSaid, ReadIntoSaid, WriteSaid};
-ghost use Rattle.bp_core.specs.Outcomes.{DiscardOutcome, TickOutcome, PurgeOutcome, TakesMemory};
+ghost use Rattle.bp_session_log.specs.Turns.{ReadSaid, ReadIntoSaid, WriteSaid};
+ghost use Rattle.bp_core.specs.Outcomes.{TakesMemory};
 ghost use Rattle.bp_core.specs.Outcomes.{ReadOutcome, ReadIntoOutcome, WriteOutcome};
 ghost use Rattle.bp_session_log.specs.Causes.{Looks, AsksFix, AsksFlush};
 
@@ -18,7 +18,6 @@ use bp_core::{Call, Pass, PoolCore, Reply, passes};
 use bp_keeper::ListKeeper;
 use bp_mark::{Mark, Reader};
 use bp_page::{Image, Lsn, PageNo, Refusal};
-use bp_trail::Discarded;
 
 impl<K: ListKeeper> Book<K> {
     /// Looks at the mark once, and marks what it sees where that is above the mark of the core: the trail and the
@@ -61,7 +60,7 @@ impl<K: ListKeeper> Book<K> {
     /// `NoVictim`, `NeedLog` and `Busy` are the reply of the entry; `TrailFull` and `OutOfMemory` add none.
     #[tactic(auto, using(crate::proofs::Asking::fix_refused, crate::proofs::Asking::write_first_sized))]
     #[inline(always)]
-    pub fn ask_fix(&mut self, core: &mut PoolCore<K>, page: PageNo) -> Result<Fix, Refusal>
+    pub(crate) fn ask_fix(&mut self, core: &mut PoolCore<K>, page: PageNo) -> Result<Fix, Refusal>
         requires client_in { self.old.client < core.old.parameters.clients }
         requires page_in { page < core.old.parameters.pages }
         requires size { self.old.size ≡ core.old.parameters.size }
@@ -101,7 +100,11 @@ impl<K: ListKeeper> Book<K> {
     ///
     /// `NeedLog` and `Busy` are the reply of the entry; `TrailFull` and `OutOfMemory` add none.
     #[tactic(auto, using(crate::proofs::Asking::flush_refused, crate::proofs::Asking::write_first_sized))]
-    pub fn ask_flush(&mut self, core: &mut PoolCore<K>, page: PageNo) -> Result<Flush, Refusal>
+    pub(crate) fn ask_flush(
+        &mut self,
+        core: &mut PoolCore<K>,
+        page: PageNo,
+    ) -> Result<Flush, Refusal>
         requires client_in { self.old.client < core.old.parameters.clients }
         requires page_in { page < core.old.parameters.pages }
         requires size { self.old.size ≡ core.old.parameters.size }
@@ -134,69 +137,6 @@ impl<K: ListKeeper> Book<K> {
                 Err(refusal)
             }
         }
-    }
-
-    /// Asks the core that a page leave its frame unwritten. The trail and the list get the discard with its reply.
-    ///
-    /// `Busy` and `Pinned` are the reply of the entry; `TrailFull` adds none.
-    #[tactic(auto, using(crate::proofs::Asking::discard_refused))]
-    pub fn ask_discard(
-        &mut self,
-        core: &mut PoolCore<K>,
-        page: PageNo,
-    ) -> Result<Discarded, Refusal>
-        requires client_in { self.old.client < core.old.parameters.clients }
-        requires page_in { page < core.old.parameters.pages }
-        requires room { 0 < self.old.entries }
-        ensures keeps { KeepsBook core.old self.old core.new self.new }
-        ensures asked { DiscardOutcome core.old self.old.client page result core.new }
-        ensures outcome { DiscardTurn self.old.client page result self.old.said self.new.said }
-        ensures passes { self.new.passes ≡ self.old.passes }
-        ensures places { self.new.places ≡ self.old.places }
-    {
-        match core.discard(self.client, page) {
-            Ok(how) => {
-                self.tell(Call::Discard(page), how.reply());
-                Ok(how)
-            }
-            Err(refusal) => {
-                self.tell_refused(Call::Discard(page), &refusal);
-                Err(refusal)
-            }
-        }
-    }
-
-    /// Moves the clock on: the trail and the list get the tick. `TrailFull` and `ClockFull` add no entry.
-    #[tactic(auto, using(crate::proofs::Asking::tick_refused))]
-    pub fn ask_tick(&mut self, core: &mut PoolCore<K>, n: u64) -> Result<(), Refusal>
-        requires client_in { self.old.client < core.old.parameters.clients }
-        requires room { 0 < self.old.entries }
-        ensures keeps { KeepsBook core.old self.old core.new self.new }
-        ensures asked { TickOutcome core.old self.old.client n result core.new }
-        ensures outcome { TickSaid self.old.client n result self.old.said self.new.said }
-        ensures passes { self.new.passes ≡ self.old.passes }
-        ensures places { self.new.places ≡ self.old.places }
-    {
-        core.tick(self.client, n)?;
-        self.tell(Call::Tick(n), Reply::Done);
-        Ok(())
-    }
-
-    /// Forgets old references, and returns the number of their pages: the trail and the list get the purge with its
-    /// count. `TrailFull` adds no entry.
-    #[tactic(auto, using(crate::proofs::Asking::purge_refused))]
-    pub fn ask_purge(&mut self, core: &mut PoolCore<K>) -> Result<u64, Refusal>
-        requires client_in { self.old.client < core.old.parameters.clients }
-        requires room { 0 < self.old.entries }
-        ensures keeps { KeepsBook core.old self.old core.new self.new }
-        ensures asked { PurgeOutcome core.old self.old.client result core.new }
-        ensures outcome { PurgeSaid self.old.client result self.old.said self.new.said }
-        ensures passes { self.new.passes ≡ self.old.passes }
-        ensures places { self.new.places ≡ self.old.places }
-    {
-        let forgotten = core.purge(self.client)?;
-        self.tell(Call::Purge, Reply::Forgot(forgotten));
-        Ok(forgotten)
     }
 
     /// Reads the page of a pass of the client's: the image has the page size. The trail and the list get the read, each

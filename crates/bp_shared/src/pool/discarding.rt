@@ -6,37 +6,13 @@ use crate::session::Session;
 use bp_core::Discarded;
 use bp_keeper::ListKeeper;
 use bp_page::{PageNo, Refusal};
-use bp_session_log::Room;
+use bp_session_log::Discard;
 use std::sync::Wait;
 
 impl<N: PartNames, K: ListKeeper> SharedPool<N, K> {
     ghost use Rattle.std.specs.Prelude.{◌≡◌, ◌<◌, false};
-    ghost use Rattle.bp_session_log.specs.Turns.{DiscardTurn};
     ghost use Rattle.bp_shared.specs.Sessions.{DiscardSaid, IsLong};
     ghost use Rattle.bp_shared.specs.Keeping.{KeepsSession, FillsRoom};
-
-    /// Takes the memory for one more event, and asks that a page leave its frame, in one critical section. `Busy` and
-    /// `OutOfMemory` as from `ask_fix`.
-    fn ask_discard<R: Wait>(
-        &self,
-        rt: &R,
-        session: &mut Session<N, K>,
-        page: PageNo,
-    ) -> Result<Discarded, Refusal>
-        requires page_in { page < N.parameters.pages }
-        ensures keeps { KeepsSession N.parameters N.past result session.old session.new }
-        ensures turn { DiscardTurn session.old.client page result
-            session.old.said session.new.said }
-        ensures room { result ≡ Err Refusal.TrailFull → FillsRoom 1 N.parameters session.new.seen }
-        ensures memory { K.REFUSES ≡ false → result ≡ Err Refusal.OutOfMemory
-            → IsLong session.new }
-    {
-        session.book.reserve(Room::ENTRY)?;
-        let mut state = self.lock_and_drain(rt, session);
-        let answer = state.discard(session, page);
-        self.unlock_or_wait(rt, state, &answer);
-        answer
-    }
 
     /// Has a page leave its frame without being written out, and forgets its references: `Left`, or `Absent` where it
     /// is in no frame. Its writes that had not gone out are lost. Where the page is being read or written out, the call
@@ -60,7 +36,7 @@ impl<N: PartNames, K: ListKeeper> SharedPool<N, K> {
             → IsLong session.new }
     {
         for _ in rt.forever() {
-            match self.ask_discard(rt, session, page) {
+            match self.make(rt, session, Discard(page)) {
                 Ok(how) => return Ok(how),
                 Err(refusal) => match refusal {
                     // Some device work has ended: ask again.

@@ -9,18 +9,18 @@ use bp_core::{Ended, Pass};
 use bp_keeper::ListKeeper;
 use bp_page::{PageNo, Refusal};
 use bp_ports::Port;
-use bp_session_log::{Fix, PendingRead, PendingWrite, Room};
+use bp_session_log::{AskFix, Fix, PendingRead, PendingWrite};
 use std::sync::Wait;
 
 impl<N: PartNames, K: ListKeeper> SharedPool<N, K> {
     ghost use Rattle.std.specs.Prelude.{◌≡◌, ◌≢◌, ◌⊎◌, ◌+◌, ◌<◌, ◌≤◌, false};
     ghost use Rattle.bp_trail.specs.declared.entries.Call.TheVariants as Call;
     ghost use Rattle.bp_session_log.specs.Books.{OwesRead, OwesWrite};
-    ghost use Rattle.bp_session_log.specs.Turns.{FixTurn, LoadOutcome, WriteOutOutcome, passes_taken, places_taken};
+    ghost use Rattle.bp_session_log.specs.Turns.{LoadOutcome, WriteOutOutcome};
     ghost use Rattle.bp_core.specs.Work.{MadeBlank};
     ghost use Rattle.bp_shared.specs.Sessions.{DoesWorkSaid, FixSaid, IsLong, IsRoomy, IsRoomyFor};
-    ghost use Rattle.bp_shared.specs.Writing.{FixBegins, WithLsnSeen};
-    ghost use Rattle.bp_shared.specs.Keeping.{Acted, Acts, KeepsSession, FillsRoom, WantsMemory};
+    ghost use Rattle.bp_shared.specs.Writing.{WithLsnSeen};
+    ghost use Rattle.bp_shared.specs.Keeping.{Acted, KeepsSession, FillsRoom, WantsMemory};
 
     /// Brings a page's image with no lock held, ends the read, and wakes all that wait.
     fn load<P: Port, S: Source<P>, R: Wait>(
@@ -78,39 +78,6 @@ impl<N: PartNames, K: ListKeeper> SharedPool<N, K> {
         self.ended.notify_all();
         session.book.free_left();
         ended
-    }
-
-    /// Takes the memory for one more event, and asks for a page in one critical section. Where another client has the
-    /// page in flight, which is `Busy`, some device work has ended at the return. `OutOfMemory` comes before the lock
-    /// is taken, or from the core under it.
-    #[inline(always)]
-    fn ask_fix<R: Wait>(
-        &self,
-        rt: &R,
-        session: &mut Session<N, K>,
-        page: PageNo,
-    ) -> Result<Fix, Refusal>
-        requires page_in { page < N.parameters.pages }
-        ensures client { session.new.client ≡ session.old.client }
-        ensures before { session.new.before ≡ session.old.before }
-        ensures acts { Acts N.parameters N.past result session.old session.new }
-        ensures turn { FixTurn session.old.client page result session.old.said session.new.said }
-        ensures begins { FixBegins session.old.client session.old.seen result session.new.seen }
-        ensures passes { session.old.passes ≤ session.new.passes + passes_taken result }
-        ensures places { session.old.places ≤ session.new.places + places_taken result }
-        ensures had { result ≢ Err Refusal.OutOfMemory
-            → (2 ≤ session.new.passes + passes_taken result)
-            × (2 ≤ session.new.places + places_taken result) }
-        ensures room { result ≡ Err Refusal.TrailFull → FillsRoom 3 N.parameters session.new.seen }
-        ensures memory { K.REFUSES ≡ false → IsRoomyFor 2 session.old
-            → result ≡ Err Refusal.OutOfMemory
-            → IsLong session.new ⊎ WantsMemory (Call.Fix page) N.parameters session.new.seen }
-    {
-        session.book.reserve(Room::with_passes(2))?;
-        let mut state = self.lock_and_drain(rt, session);
-        let answer = state.fix(&self.mark, session, page);
-        self.unlock_or_wait(rt, state, &answer);
-        answer
     }
 
     /// Fixes a page: gives a pass of it, once it is in a frame. The page is read, and an unsaved victim written out
@@ -206,7 +173,7 @@ impl<N: PartNames, K: ListKeeper> SharedPool<N, K> {
             session.old.said session.new.said port.old port.new }
     {
         for _ in rt.forever() {
-            match self.ask_fix(rt, session, page) {
+            match self.make(rt, session, AskFix(page)) {
                 Ok(Fix::Hit(pass)) => return Ok(pass),
                 Ok(Fix::Load(ticket, _)) => {
                     return self.load(rt, session, port, source, ticket);

@@ -7,47 +7,15 @@ use bp_core::Flushed;
 use bp_keeper::ListKeeper;
 use bp_page::{PageNo, Refusal};
 use bp_ports::Port;
-use bp_session_log::{Flush, Room};
+use bp_session_log::{AskFlush, Flush};
 use std::sync::Wait;
 
 impl<N: PartNames, K: ListKeeper> SharedPool<N, K> {
-    ghost use Rattle.std.specs.Prelude.{◌≡◌, ◌≢◌, ◌⊎◌, ◌+◌, ◌<◌, ◌≤◌, false};
+    ghost use Rattle.std.specs.Prelude.{◌≡◌, ◌≢◌, ◌⊎◌, ◌<◌, false};
     ghost use Rattle.bp_trail.specs.declared.entries.Call.TheVariants as Call;
-    ghost use Rattle.bp_session_log.specs.Turns.{FlushTurn, tickets_taken};
     ghost use Rattle.bp_shared.specs.Sessions.{DoesWorkSaid, FlushSaid, IsLong, IsRoomy};
-    ghost use Rattle.bp_shared.specs.Writing.{FlushBegins, WithLsnSeen};
-    ghost use Rattle.bp_shared.specs.Keeping.{Acts, KeepsSession, FillsRoom, WantsMemory};
-
-    /// Takes the memory for one more event, and asks that a page be written out in one critical section. `Busy` and
-    /// `OutOfMemory` as from `ask_fix`.
-    fn ask_flush<R: Wait>(
-        &self,
-        rt: &R,
-        session: &mut Session<N, K>,
-        page: PageNo,
-    ) -> Result<Flush, Refusal>
-        requires page_in { page < N.parameters.pages }
-        ensures client { session.new.client ≡ session.old.client }
-        ensures before { session.new.before ≡ session.old.before }
-        ensures acts { Acts N.parameters N.past result session.old session.new }
-        ensures turn { FlushTurn session.old.client page result session.old.said session.new.said }
-        ensures begins { FlushBegins session.old.client session.old.seen result session.new.seen }
-        ensures passes { session.old.passes ≤ session.new.passes + tickets_taken result }
-        ensures places { session.old.places ≤ session.new.places + tickets_taken result }
-        ensures had { result ≢ Err Refusal.OutOfMemory
-            → (1 ≤ session.new.passes + tickets_taken result)
-            × (2 ≤ session.new.places + tickets_taken result) }
-        ensures room { result ≡ Err Refusal.TrailFull → FillsRoom 2 N.parameters session.new.seen }
-        ensures memory { K.REFUSES ≡ false → IsRoomy session.old
-            → result ≡ Err Refusal.OutOfMemory
-            → IsLong session.new ⊎ WantsMemory (Call.Flush page) N.parameters session.new.seen }
-    {
-        session.book.reserve(Room::with_passes(1))?;
-        let mut state = self.lock_and_drain(rt, session);
-        let answer = state.flush(&self.mark, session, page);
-        self.unlock_or_wait(rt, state, &answer);
-        answer
-    }
+    ghost use Rattle.bp_shared.specs.Writing.{WithLsnSeen};
+    ghost use Rattle.bp_shared.specs.Keeping.{KeepsSession, FillsRoom, WantsMemory};
 
     /// Writes a page out if it is unsaved, through the port and with no lock held. Where the page is being read or
     /// written out, the call waits for the end of some device work and asks again. Before each flush of the core it
@@ -78,7 +46,7 @@ impl<N: PartNames, K: ListKeeper> SharedPool<N, K> {
             session.old.said session.new.said port.old port.new }
     {
         for _ in rt.forever() {
-            match self.ask_flush(rt, session, page) {
+            match self.make(rt, session, AskFlush(page)) {
                 Ok(Flush::Clean) => return Ok(Flushed::Clean),
                 Ok(Flush::Absent) => return Ok(Flushed::Absent),
                 Ok(Flush::WriteFirst(ticket)) => {

@@ -7,7 +7,7 @@ use crate::session::Session;
 use bp_core::Pass;
 use bp_keeper::ListKeeper;
 use bp_page::{Image, Lsn, Refusal};
-use bp_session_log::Room;
+use bp_session_log::{Purge, Room, Tick};
 use std::sync::Wait;
 
 impl<N: PartNames, K: ListKeeper> SharedPool<N, K> {
@@ -29,9 +29,7 @@ impl<N: PartNames, K: ListKeeper> SharedPool<N, K> {
         ensures memory { K.REFUSES ≡ false → result ≡ Err Refusal.OutOfMemory
             → IsLong session.new }
     {
-        session.book.reserve(Room::ENTRY)?;
-        let mut state = self.lock_and_drain(rt, session);
-        state.tick(session, n)
+        self.make(rt, session, Tick(n))
     }
 
     /// Forgets old references, and returns the number of their pages. `OutOfMemory` and `TrailFull` change nothing. A
@@ -43,9 +41,7 @@ impl<N: PartNames, K: ListKeeper> SharedPool<N, K> {
         ensures memory { K.REFUSES ≡ false → result ≡ Err Refusal.OutOfMemory
             → IsLong session.new }
     {
-        session.book.reserve(Room::ENTRY)?;
-        let mut state = self.lock_and_drain(rt, session);
-        state.purge(session)
+        self.make(rt, session, Purge)
     }
 
     /// Returns a copy of the image of a pass's page. `UnknownPass`, before all else, where the pass is another

@@ -1,50 +1,15 @@
--- Where memory is refused, nothing is asked.
-use Rattle.std.proofs.Common.{arith, refl, sym, ap, subst, ◌∙◌, Err}
-use Rattle.std.proofs.lemmas.Bool.{false≢true}
-use Rattle.std.proofs.lemmas.Result.{err_from_is_err_and}
-use Rattle.bp_session_log.specs.Turns.{TickSaid}
-use Rattle.bp_shared.specs.Sessions.{SessionValue}
-use Rattle.bp_shared.proofs.Acting.{acted, begun, unasked, too_long}
-use Rattle.bp_shared.proofs.Working.{why-of}
+-- One event.
+use Rattle.std.proofs.Common.{arith}
+use Rattle.bp_shared.proofs.Acting.{roomy_still, or_never}
 use Rattle.bp_shared.proofs.pool.SharedPool.tick.Goals as goal
-
-pub returns-in_err-reserve : goal.returns-in_err-reserve
-returns-in_err-reserve g c =
-    let refused = c.in_err-reserve.ensures in
-    let is = err_from_is_err_and c.from_residual.result c.from_residual.ensures.1 in
-    let why = is.1 ∙ ap Err (is.2 ∙ ap why-of refused.refused) in
-    rw (← c.session.view_is) (record {
-      keeps = record {
-        client = refused.same.client;
-        before = refused.same.before;
-        acts = unasked _ _ _ _ _ why (record { part = refl; client = refused.same.client; said = refused.same.said; seen = refl; free = refl });
-        roomy = λ had. (omega (arith, refused.keeps_passes, had.0), omega (arith, refused.keeps_places, had.1));
-      };
-      room = λ full. absurd (let no = sym why ∙ full in cc);
-      clock = λ over. absurd (let no = sym why ∙ over in cc);
-      outcome = subst (λ r. TickSaid c.session.inside.book.client c.args.n r c.session.inside.book.said c.reserve.new.self.said) (sym why) refused.same.said;
-      memory = λ silent no. too_long _ _ refused.same.said (λ short. false≢true (refused.memory silent short (omega arith) (omega arith)));
-    })
 
 pub returns : goal.returns
 returns g c =
-    let grows = c.in_ok-reserve.ensures in
-    let same = grows.same in
-    let entered = c.lock_and_drain-state.ensures in
-    let client = ap (λ (s : SessionValue). s.client) entered.session ∙ same.client in
-    let said = ap (λ (s : SessionValue). s.said) entered.session ∙ same.said in
-    let passes = ap (λ (s : SessionValue). s.passes) entered.session in
-    let places = ap (λ (s : SessionValue). s.places) entered.session in
-    let done = c.tick.ensures in
-    rw (← c.session.view_is) (record {
-      keeps = record {
-        client = done.client ∙ client;
-        before = done.before ∙ ap (λ (s : SessionValue). s.before) entered.session ∙ same.before;
-        acts = acted _ _ _ _ _ (begun _ _ _ _ _ entered.free (ap (λ (s : SessionValue). s.seen) entered.session) (ap (λ (s : SessionValue). s.part) entered.session) done.acted);
-        roomy = λ had. (omega (arith, grows.keeps_passes, passes, done.passes, had.0), omega (arith, grows.keeps_places, places, done.places, had.1));
-      };
-      room = done.room;
-      clock = done.clock;
-      outcome = rw (client, said) at done.outcome;
-      memory = λ silent no. absurd (done.memory no);
-    })
+    let done = c.make.ensures in
+    record {
+      keeps = record { client = done.client; before = done.before; acts = done.acts; roomy = roomy_still c.args.session.now c.make.new.session done.passes_left done.places_left };
+      outcome = done.outcome;
+      room = λ full. done.why _ full (λ is. cc);
+      clock = λ over. done.why _ over (λ is. cc);
+      memory = λ silent no. or_never (done.memory silent (omega arith) (omega arith) no);
+    }
