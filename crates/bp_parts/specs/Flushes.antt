@@ -8,7 +8,7 @@ use Rattle.bp_ports.specs.Stripes.{StripedView, ReadsStriped, WritesStriped, tur
 use Rattle.bp_shared.specs.FlushAll.{Pool, Reaches}
 use Rattle.bp_shared.specs.Sessions.{SessionValue, DoesWorkSaid}
 use Rattle.bp_shared.specs.Writing.{WithLsnSeen}
-use Rattle.bp_parts.specs.Calls.{FlushesAllIn}
+use Rattle.bp_shared.specs.Calls.{FlushesAllIn}
 use Rattle.bp_parts.specs.Parts.{PartedValue, InPart, page_in_part, part_of}
 
 -- what its pool has: whether it refuses memory, its parameters and the trail that it began with;

@@ -1,6 +1,5 @@
 -- The parts of a pool, and what a call does in one of them.
 pub mod Parts
-pub mod Calls
 pub mod Redo
 pub mod Finding
 pub mod Sums

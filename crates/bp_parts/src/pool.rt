@@ -55,7 +55,7 @@ impl<N: PartNames + PartCount, K: ListKeeper> PartedPool<N, K> {
     ghost use Rattle.bp_shared.specs.Writing.{WithLsnSeen};
     ghost use Rattle.bp_ports.specs.Stripes.{ReadsStriped, WritesStriped, turned};
     ghost use Rattle.bp_parts.specs.Parts.{AreNumbered, InPart, OfPart, UnfixedIn, part_of, page_in_part};
-    ghost use Rattle.bp_parts.specs.Calls.{DiscardsIn, FixesIn, FlushesIn, LooksIn, PageReadsIn, PurgesIn, ReadsIn, TicksIn};
+    ghost use Rattle.bp_shared.specs.Calls.{DiscardsIn, FixesIn, FlushesIn, LooksIn, PageReadsIn, PurgesIn, ReadsIn, TicksIn};
 
     /// Takes the parts, in order, which are 1 to 64.
     pub fn new(parts: Vec<SharedPool<N, K>>) -> PartedPool<N, K>

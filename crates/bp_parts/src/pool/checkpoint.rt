@@ -32,7 +32,7 @@ impl<N: PartNames + PartCount, K: ListKeeper> PartedPool<N, K> {
     ghost use Rattle.bp_shared.specs.Telling.{Sees};
     ghost use Rattle.bp_shared.specs.Writing.{WithLsnSeen};
     ghost use Rattle.bp_parts.specs.Parts.{InEachPart, InPart};
-    ghost use Rattle.bp_parts.specs.Calls.{FlushesAllIn};
+    ghost use Rattle.bp_shared.specs.Calls.{FlushesAllIn};
     ghost use Rattle.bp_parts.specs.Redo.{IsRedoFromAll};
     ghost use Rattle.bp_parts.specs.Flushes.{FlushesAllParts};
 

@@ -10,9 +10,8 @@ use bp_session_log::Discard;
 use std::sync::Wait;
 
 impl<N: PartNames, K: ListKeeper> SharedPool<N, K> {
-    ghost use Rattle.std.specs.Prelude.{◌≡◌, ◌<◌, false};
-    ghost use Rattle.bp_shared.specs.Sessions.{DiscardSaid, IsLong};
-    ghost use Rattle.bp_shared.specs.Keeping.{KeepsSession, FillsRoom};
+    ghost use Rattle.std.specs.Prelude.{◌<◌};
+    ghost use Rattle.bp_shared.specs.Calls.{DiscardsIn};
 
     /// Has a page leave its frame without being written out, and forgets its references: `Left`, or `Absent` where it
     /// is in no frame. Its writes that had not gone out are lost. Where the page is being read or written out, the call
@@ -28,12 +27,7 @@ impl<N: PartNames, K: ListKeeper> SharedPool<N, K> {
         page: PageNo,
     ) -> Result<Discarded, Refusal>
         requires page_in { page < N.parameters.pages }
-        ensures keeps { KeepsSession N.parameters N.past result session.old session.new }
-        ensures outcome { DiscardSaid session.old.client page result
-            session.old.said session.new.said }
-        ensures room { result ≡ Err Refusal.TrailFull → FillsRoom 1 N.parameters session.new.seen }
-        ensures memory { K.REFUSES ≡ false → result ≡ Err Refusal.OutOfMemory
-            → IsLong session.new }
+        ensures { DiscardsIn K.REFUSES N.parameters N.past page result session.old session.new }
     {
         for _ in rt.forever() {
             match self.make(rt, session, Discard(page)) {

@@ -14,13 +14,13 @@ use std::sync::Wait;
 
 impl<N: PartNames, K: ListKeeper> SharedPool<N, K> {
     ghost use Rattle.std.specs.Prelude.{◌≡◌, ◌≢◌, ◌⊎◌, ◌+◌, ◌<◌, ◌≤◌, false};
-    ghost use Rattle.bp_trail.specs.declared.entries.Call.TheVariants as Call;
     ghost use Rattle.bp_session_log.specs.Books.{OwesRead, OwesWrite};
     ghost use Rattle.bp_session_log.specs.Turns.{LoadOutcome, WriteOutOutcome};
     ghost use Rattle.bp_core.specs.Work.{MadeBlank};
-    ghost use Rattle.bp_shared.specs.Sessions.{DoesWorkSaid, FixSaid, IsLong, IsRoomy, IsRoomyFor};
+    ghost use Rattle.bp_shared.specs.Calls.{FixesIn};
+    ghost use Rattle.bp_shared.specs.Sessions.{DoesWorkSaid};
     ghost use Rattle.bp_shared.specs.Writing.{WithLsnSeen};
-    ghost use Rattle.bp_shared.specs.Keeping.{Acted, KeepsSession, FillsRoom, WantsMemory};
+    ghost use Rattle.bp_shared.specs.Keeping.{Acted};
 
     /// Brings a page's image with no lock held, ends the read, and wakes all that wait.
     fn load<P: Port, S: Source<P>, R: Wait>(
@@ -102,15 +102,8 @@ impl<N: PartNames, K: ListKeeper> SharedPool<N, K> {
     ) -> Result<Pass, Refusal>
         requires page_in { page < N.parameters.pages }
         requires port { (P.geometry_of port.old).size ≡ N.parameters.size }
-        ensures keeps { KeepsSession N.parameters N.past result session.old session.new }
+        ensures fix { FixesIn K.REFUSES N.parameters N.past page result session.old session.new }
         ensures port { P.geometry_of port.new ≡ P.geometry_of port.old }
-        ensures outcome { FixSaid session.old.client page result session.old.said session.new.said }
-        ensures room { result ≡ Err Refusal.TrailFull → FillsRoom 3 N.parameters session.new.seen }
-        ensures memory { K.REFUSES ≡ false → IsRoomyFor 2 session.old
-            → result ≡ Err Refusal.OutOfMemory
-            → IsLong session.new ⊎ WantsMemory (Call.Fix page) N.parameters session.new.seen }
-        ensures roomy { result ≢ Err Refusal.OutOfMemory → IsRoomy session.new }
-        ensures known { result ≢ Err Refusal.UnknownTicket }
         ensures work { DoesWorkSaid P.read_gives (WithLsnSeen session.old session.new P.write_gives)
             session.old.said session.new.said port.old port.new }
     {
@@ -132,15 +125,8 @@ impl<N: PartNames, K: ListKeeper> SharedPool<N, K> {
     ) -> Result<Pass, Refusal>
         requires page_in { page < N.parameters.pages }
         requires port { (P.geometry_of port.old).size ≡ N.parameters.size }
-        ensures keeps { KeepsSession N.parameters N.past result session.old session.new }
+        ensures fix { FixesIn K.REFUSES N.parameters N.past page result session.old session.new }
         ensures port { P.geometry_of port.new ≡ P.geometry_of port.old }
-        ensures outcome { FixSaid session.old.client page result session.old.said session.new.said }
-        ensures room { result ≡ Err Refusal.TrailFull → FillsRoom 3 N.parameters session.new.seen }
-        ensures memory { K.REFUSES ≡ false → IsRoomyFor 2 session.old
-            → result ≡ Err Refusal.OutOfMemory
-            → IsLong session.new ⊎ WantsMemory (Call.Fix page) N.parameters session.new.seen }
-        ensures roomy { result ≢ Err Refusal.OutOfMemory → IsRoomy session.new }
-        ensures known { result ≢ Err Refusal.UnknownTicket }
         ensures work { DoesWorkSaid (λ at. MadeBlank (P.geometry_of at).size at)
             (WithLsnSeen session.old session.new P.write_gives)
             session.old.said session.new.said port.old port.new }
@@ -160,15 +146,8 @@ impl<N: PartNames, K: ListKeeper> SharedPool<N, K> {
     ) -> Result<Pass, Refusal>
         requires page_in { page < N.parameters.pages }
         requires port { (P.geometry_of port.old).size ≡ N.parameters.size }
-        ensures keeps { KeepsSession N.parameters N.past result session.old session.new }
+        ensures fix { FixesIn K.REFUSES N.parameters N.past page result session.old session.new }
         ensures port { P.geometry_of port.new ≡ P.geometry_of port.old }
-        ensures outcome { FixSaid session.old.client page result session.old.said session.new.said }
-        ensures room { result ≡ Err Refusal.TrailFull → FillsRoom 3 N.parameters session.new.seen }
-        ensures memory { K.REFUSES ≡ false → IsRoomyFor 2 session.old
-            → result ≡ Err Refusal.OutOfMemory
-            → IsLong session.new ⊎ WantsMemory (Call.Fix page) N.parameters session.new.seen }
-        ensures roomy { result ≢ Err Refusal.OutOfMemory → IsRoomy session.new }
-        ensures known { result ≢ Err Refusal.UnknownTicket }
         ensures work { DoesWorkSaid S.gives (WithLsnSeen session.old session.new P.write_gives)
             session.old.said session.new.said port.old port.new }
     {

@@ -1,6 +1,5 @@
 //! `flush_all`: writes out each unsaved page of a shared pool.
 ghost use Rattle.std.specs.Prelude.{◌≡◌};
-ghost use Rattle.bp_page.specs.declared.refusals.Refusal.TheVariants as Refusal;
 
 use super::SharedPool;
 use crate::names::PartNames;
@@ -11,12 +10,9 @@ use bp_ports::Port;
 use std::sync::Wait;
 
 impl<N: PartNames, K: ListKeeper> SharedPool<N, K> {
-    ghost use Rattle.std.specs.Prelude.{◌≡◌, ◌≢◌, ◌⊎◌, false, IfErr};
-    ghost use Rattle.bp_trail.specs.declared.entries.Call.TheVariants as Call;
-    ghost use Rattle.bp_shared.specs.FlushAll.{FlushAllSaid};
-    ghost use Rattle.bp_shared.specs.Sessions.{DoesWorkSaid, IsLong, IsRoomy};
+    ghost use Rattle.bp_shared.specs.Calls.{FlushesAllIn};
+    ghost use Rattle.bp_shared.specs.Sessions.{DoesWorkSaid};
     ghost use Rattle.bp_shared.specs.Writing.{WithLsnSeen};
-    ghost use Rattle.bp_shared.specs.Keeping.{Acted, FillsRoom, WantsMemory};
 
     /// Writes each unsaved page out, in the order of the file, as `flush` does, with no lock held while the device
     /// works. Each page is the first that is unsaved from the one before on, when it is looked for. A page that was
@@ -32,19 +28,9 @@ impl<N: PartNames, K: ListKeeper> SharedPool<N, K> {
         session: &mut Session<N, K>,
         port: &mut P,
     ) -> Result<(), NotFlushed>
-        ensures client { session.new.client ≡ session.old.client }
-        ensures before { session.new.before ≡ session.old.before }
-        ensures acted { Acted N.parameters N.past session.old session.new }
-        ensures roomy { IsRoomy session.old → IsRoomy session.new }
+        ensures flushes { FlushesAllIn K.REFUSES N.parameters N.past result
+            session.old session.new }
         ensures port { P.geometry_of port.new ≡ P.geometry_of port.old }
-        ensures outcome { FlushAllSaid (record { parameters = N.parameters; start = N.past })
-            result session.old session.new }
-        ensures known { IfErr result (λ stop. stop.why ≢ Refusal.UnknownTicket) }
-        ensures room { IfErr result (λ stop. stop.why ≡ Refusal.TrailFull
-            → FillsRoom 2 N.parameters session.new.seen) }
-        ensures memory { K.REFUSES ≡ false → IsRoomy session.old
-            → IfErr result (λ stop. stop.why ≡ Refusal.OutOfMemory → IsLong session.new
-            ⊎ WantsMemory (Call.Flush stop.page) N.parameters session.new.seen) }
         ensures work { DoesWorkSaid P.read_gives (WithLsnSeen session.old session.new P.write_gives)
             session.old.said session.new.said port.old port.new }
     {

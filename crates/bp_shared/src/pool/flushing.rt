@@ -12,10 +12,9 @@ use std::sync::Wait;
 
 impl<N: PartNames, K: ListKeeper> SharedPool<N, K> {
     ghost use Rattle.std.specs.Prelude.{◌≡◌, ◌≢◌, ◌⊎◌, ◌<◌, false};
-    ghost use Rattle.bp_trail.specs.declared.entries.Call.TheVariants as Call;
-    ghost use Rattle.bp_shared.specs.Sessions.{DoesWorkSaid, FlushSaid, IsLong, IsRoomy};
+    ghost use Rattle.bp_shared.specs.Calls.{FlushesIn};
+    ghost use Rattle.bp_shared.specs.Sessions.{DoesWorkSaid};
     ghost use Rattle.bp_shared.specs.Writing.{WithLsnSeen};
-    ghost use Rattle.bp_shared.specs.Keeping.{KeepsSession, FillsRoom, WantsMemory};
 
     /// Writes a page out if it is unsaved, through the port and with no lock held. Where the page is being read or
     /// written out, the call waits for the end of some device work and asks again. Before each flush of the core it
@@ -32,16 +31,9 @@ impl<N: PartNames, K: ListKeeper> SharedPool<N, K> {
         page: PageNo,
     ) -> Result<Flushed, Refusal>
         requires page_in { page < N.parameters.pages }
-        ensures keeps { KeepsSession N.parameters N.past result session.old session.new }
+        ensures flush { FlushesIn K.REFUSES N.parameters N.past page result
+            session.old session.new }
         ensures port { P.geometry_of port.new ≡ P.geometry_of port.old }
-        ensures outcome { FlushSaid session.old.client page result
-            session.old.said session.new.said }
-        ensures room { result ≡ Err Refusal.TrailFull → FillsRoom 2 N.parameters session.new.seen }
-        ensures memory { K.REFUSES ≡ false → IsRoomy session.old
-            → result ≡ Err Refusal.OutOfMemory
-            → IsLong session.new ⊎ WantsMemory (Call.Flush page) N.parameters session.new.seen }
-        ensures roomy { result ≢ Err Refusal.OutOfMemory → IsRoomy session.new }
-        ensures known { result ≢ Err Refusal.UnknownTicket }
         ensures work { DoesWorkSaid P.read_gives (WithLsnSeen session.old session.new P.write_gives)
             session.old.said session.new.said port.old port.new }
     {

@@ -5,8 +5,9 @@ ghost use Rattle.bp_trail.specs.declared.entries.Call.TheVariants as Call;
 ghost use Rattle.bp_core.specs.Outcomes.{pass_is_out};
 ghost use Rattle.bp_shared.specs.Sessions.{DoesWorkSaid, IsLong, IsRoomy, IsRoomyFor};
 ghost use Rattle.bp_shared.specs.Sessions.{LookSaid, PageReadSaid, ReadAndUnfixSaid};
+ghost use Rattle.bp_shared.specs.Calls.{PageReadsIn};
 ghost use Rattle.bp_shared.specs.Writing.{WithLsnSeen};
-ghost use Rattle.bp_shared.specs.Keeping.{Acted, EndsInRead, IsReadAtOnce, KeepsSession, FillsRoom, WantsMemory};
+ghost use Rattle.bp_shared.specs.Keeping.{Acted, EndsInRead, KeepsSession, FillsRoom, WantsMemory};
 
 use super::SharedPool;
 use crate::names::PartNames;
@@ -40,18 +41,11 @@ impl<N: PartNames, K: ListKeeper> SharedPool<N, K> {
         requires page_in { page < N.parameters.pages }
         requires port { (P.geometry_of port.old).size ≡ N.parameters.size }
         requires fits { offset + length into.old ≤ N.parameters.size }
-        ensures keeps { KeepsSession N.parameters N.past result session.old session.new }
+        ensures read { PageReadsIn K.REFUSES N.parameters N.past page result
+            session.old session.new }
         ensures port { P.geometry_of port.new ≡ P.geometry_of port.old }
         ensures outcome { PageReadSaid session.old.client page offset into.old result into.new
             session.old.said session.new.said }
-        ensures at_once { IsOk result → IsReadAtOnce N.past page session.old session.new }
-        ensures room { result ≡ Err Refusal.TrailFull → FillsRoom 3 N.parameters session.new.seen }
-        ensures memory { K.REFUSES ≡ false → IsRoomyFor 2 session.old
-            → result ≡ Err Refusal.OutOfMemory
-            → IsLong session.new ⊎ WantsMemory (Call.Fix page) N.parameters session.new.seen }
-        ensures roomy { result ≢ Err Refusal.OutOfMemory → IsRoomy session.new }
-        ensures known { result ≢ Err Refusal.UnknownTicket }
-        ensures held { result ≢ Err Refusal.UnknownPass }
         ensures work { DoesWorkSaid P.read_gives (WithLsnSeen session.old session.new P.write_gives)
             session.old.said session.new.said port.old port.new }
     {

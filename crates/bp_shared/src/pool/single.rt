@@ -11,23 +11,15 @@ use bp_session_log::{Purge, Room, Tick};
 use std::sync::Wait;
 
 impl<N: PartNames, K: ListKeeper> SharedPool<N, K> {
-    ghost use Rattle.std.specs.Prelude.{◌≡◌, ◌≢◌, ◌⊎◌, ◌+◌, ◌^◌, ◌<◌, ◌≤◌, false, true, length, IfOk};
-    ghost use Rattle.bp_session_log.specs.Turns.{TickSaid, PurgeSaid, ReadSaid, ReadIntoSaid, WriteSaid};
-    ghost use Rattle.bp_core.specs.Outcomes.{pass_is_out};
-    ghost use Rattle.bp_shared.specs.Sessions.{IsLong, IsRoomy, LacksOwn};
-    ghost use Rattle.bp_shared.specs.Keeping.{KeepsSession, FillsRoom};
-    ghost use Rattle.bp_trail.specs.Clock.{clock};
+    ghost use Rattle.std.specs.Prelude.{◌≡◌, ◌+◌, ◌≤◌, false, length, IfOk};
+    ghost use Rattle.bp_session_log.specs.Turns.{ReadIntoSaid, WriteSaid};
+    ghost use Rattle.bp_shared.specs.Calls.{LooksIn, PurgesIn, ReadsIn, TicksIn};
+    ghost use Rattle.bp_shared.specs.Sessions.{IsLong};
 
     /// Moves the clock on by `n` ticks. `OutOfMemory`, `TrailFull` and `ClockFull` change nothing. A silent session wants
     /// no memory for it: it answers `OutOfMemory` only where its list has 2^61 entries or more.
     pub fn tick<R: Wait>(&self, rt: &R, session: &mut Session<N, K>, n: u64) -> Result<(), Refusal>
-        ensures keeps { KeepsSession N.parameters N.past result session.old session.new }
-        ensures outcome { TickSaid session.old.client n result session.old.said session.new.said }
-        ensures room { result ≡ Err Refusal.TrailFull → FillsRoom 1 N.parameters session.new.seen }
-        ensures clock { result ≡ Err Refusal.ClockFull
-            → 2 ^ 62 < clock session.new.seen + n }
-        ensures memory { K.REFUSES ≡ false → result ≡ Err Refusal.OutOfMemory
-            → IsLong session.new }
+        ensures { TicksIn K.REFUSES N.parameters N.past n result session.old session.new }
     {
         self.make(rt, session, Tick(n))
     }
@@ -35,11 +27,7 @@ impl<N: PartNames, K: ListKeeper> SharedPool<N, K> {
     /// Forgets old references, and returns the number of their pages. `OutOfMemory` and `TrailFull` change nothing. A
     /// silent session answers `OutOfMemory` as from `tick`.
     pub fn purge<R: Wait>(&self, rt: &R, session: &mut Session<N, K>) -> Result<u64, Refusal>
-        ensures keeps { KeepsSession N.parameters N.past result session.old session.new }
-        ensures outcome { PurgeSaid session.old.client result session.old.said session.new.said }
-        ensures room { result ≡ Err Refusal.TrailFull → FillsRoom 1 N.parameters session.new.seen }
-        ensures memory { K.REFUSES ≡ false → result ≡ Err Refusal.OutOfMemory
-            → IsLong session.new }
+        ensures { PurgesIn K.REFUSES N.parameters N.past result session.old session.new }
     {
         self.make(rt, session, Purge)
     }
@@ -54,16 +42,9 @@ impl<N: PartNames, K: ListKeeper> SharedPool<N, K> {
         session: &mut Session<N, K>,
         pass: &Pass,
     ) -> Result<Image, Refusal>
-        ensures keeps { KeepsSession N.parameters N.past result session.old session.new }
         ensures size { IfOk result (λ image. length image ≡ N.parameters.size) }
-        ensures stranger { pass.now.client ≢ session.old.client → result ≡ Err Refusal.UnknownPass }
-        ensures unknown { result ≡ Err Refusal.UnknownPass → LacksOwn pass.now session.old }
-        ensures outcome { ReadSaid session.old.client pass.now result
-            session.old.said session.new.said }
-        ensures room { result ≡ Err Refusal.TrailFull → FillsRoom 1 N.parameters session.new.seen }
-        ensures memory { K.REFUSES ≡ false → IsRoomy session.old
-            → result ≡ Err Refusal.OutOfMemory
-            → IsLong session.new ⊎ pass_is_out pass.now session.new.seen ≡ true }
+        ensures read { ReadsIn K.REFUSES N.parameters N.past pass.now result
+            session.old session.new }
     {
         if pass.client() != session.client() {
             return Err(Refusal::UnknownPass);
@@ -85,14 +66,10 @@ impl<N: PartNames, K: ListKeeper> SharedPool<N, K> {
         into: &mut [u8],
     ) -> Result<(), Refusal>
         requires fits { offset + length into.old ≤ N.parameters.size }
-        ensures keeps { KeepsSession N.parameters N.past result session.old session.new }
-        ensures stranger { pass.now.client ≢ session.old.client → result ≡ Err Refusal.UnknownPass }
-        ensures unknown { result ≡ Err Refusal.UnknownPass → LacksOwn pass.now session.old }
+        ensures look { LooksIn K.REFUSES N.parameters N.past pass.now result
+            session.old session.new }
         ensures outcome { ReadIntoSaid session.old.client pass.now offset into.old result into.new
             session.old.said session.new.said }
-        ensures room { result ≡ Err Refusal.TrailFull → FillsRoom 1 N.parameters session.new.seen }
-        ensures memory { K.REFUSES ≡ false → IsRoomy session.old
-            → result ≡ Err Refusal.OutOfMemory → IsLong session.new }
     {
         if pass.client() != session.client() {
             return Err(Refusal::UnknownPass);
@@ -115,12 +92,10 @@ impl<N: PartNames, K: ListKeeper> SharedPool<N, K> {
         lsn: Lsn,
     ) -> Result<(), Refusal>
         requires fits { offset + length bytes.now ≤ N.parameters.size }
-        ensures keeps { KeepsSession N.parameters N.past result session.old session.new }
-        ensures stranger { pass.now.client ≢ session.old.client → result ≡ Err Refusal.UnknownPass }
-        ensures unknown { result ≡ Err Refusal.UnknownPass → LacksOwn pass.now session.old }
+        ensures look { LooksIn K.REFUSES N.parameters N.past pass.now result
+            session.old session.new }
         ensures outcome { WriteSaid session.old.client pass.now offset bytes.now lsn result
             session.old.said session.new.said }
-        ensures room { result ≡ Err Refusal.TrailFull → FillsRoom 1 N.parameters session.new.seen }
         ensures memory { K.REFUSES ≡ false → result ≡ Err Refusal.OutOfMemory
             → IsLong session.new }
     {

@@ -30,21 +30,21 @@ returns-in_err-pass g c =
     let gone = c.in_err-pass.ensures in
     let is = err_from_is_err_and c.from_residual-in_err-pass.result c.from_residual-in_err-pass.ensures.1 in
     rw (is.1 ∙ ap Err is.2) (record {
-      same = stays _ _ _ _ _ c.fix.ensures.keeps;
-      known = λ same. gone.known (let no : c.in_err-pass.field-0.0 ≡ refusal.UnknownTicket = cc in ap Err no);
+      same = stays _ _ _ _ _ c.fix.ensures.fix.keeps;
+      known = λ same. gone.fix.known (let no : c.in_err-pass.field-0.0 ≡ refusal.UnknownTicket = cc in ap Err no);
       work = work_of_some _ _ c.args.client.now.session c.fix.new.session _ _ _ _ gone.work;
-      outcome = fix_refused c.args.client.now.session.client c.args.page c.in_err-pass.field-0.0 c.args.client.now.session.said c.fix.new.session.said gone.outcome;
-      held = c.reserve.ensures.passes ∙ c.requires.held ∙ sym (refused_fix-holds c.args.client.now.session.client c.args.page c.in_err-pass.field-0.0 c.args.client.now.session.said c.fix.new.session.said gone.outcome);
+      outcome = fix_refused c.args.client.now.session.client c.args.page c.in_err-pass.field-0.0 c.args.client.now.session.said c.fix.new.session.said gone.fix.outcome;
+      held = c.reserve.ensures.passes ∙ c.requires.held ∙ sym (refused_fix-holds c.args.client.now.session.client c.args.page c.in_err-pass.field-0.0 c.args.client.now.session.said c.fix.new.session.said gone.fix.outcome);
     })
 
 pub returns : goal.returns
 returns g c =
     let done = c.in_ok-pass.ensures in
     record {
-      same = stays _ _ _ _ _ c.fix.ensures.keeps;
+      same = stays _ _ _ _ _ c.fix.ensures.fix.keeps;
       known = λ same. cc;
       work = work_of_some _ _ c.args.client.now.session c.fix.new.session _ _ _ _ done.work;
-      outcome = fix_said c.args.client.now.session.client c.args.page c.in_ok-pass.pass c.args.client.now.session.said c.fix.new.session.said done.outcome;
-      held = fix-holds c.args.client.now.session.client c.args.page c.in_ok-pass.pass c.args.client.now.session.said c.fix.new.session.said c.reserve.new.self.passes c.push.new.self.passes done.outcome (c.reserve.ensures.passes ∙ c.requires.held)
+      outcome = fix_said c.args.client.now.session.client c.args.page c.in_ok-pass.pass c.args.client.now.session.said c.fix.new.session.said done.fix.outcome;
+      held = fix-holds c.args.client.now.session.client c.args.page c.in_ok-pass.pass c.args.client.now.session.said c.fix.new.session.said c.reserve.new.self.passes c.push.new.self.passes done.fix.outcome (c.reserve.ensures.passes ∙ c.requires.held)
           (c.push.ensures.passes ∙ ap (λ (note : Grant). c.reserve.new.self.passes ++ note ∷ []) c.note.ensures);
     }

@@ -6,7 +6,7 @@ use Rattle.bp_replay.proofs.Stepping.{IsLatest, write_row, write_known}
 use Rattle.bp_replay.proofs.steps.write.Goals as goal
 
 pub returns-clause-same : goal.returns-clause-same
-returns-clause-same g c = stays _ _ _ _ _ c.write_from-written.ensures.keeps
+returns-clause-same g c = stays _ _ _ _ _ c.write_from-written.ensures.look.keeps
 
 pub returns-clause-known : goal.returns-clause-known
 returns-clause-known g c = write_known _ _ _ _ _ _ _ _ c.write_from-written.ensures.outcome
@@ -16,4 +16,4 @@ returns-clause-outcome g c =
     let found : latest_pass c.args.client.now.session.said c.args.client.now.session.client c.args.page ≡ Some c.in-Some.note = sym c.latest.ensures ∙ c.in-Some.is in
     let latest : IsLatest c.args.client.now.session.said c.args.client.now.session.client c.args.page c.in-Some.note c.pass-pass.result = record { found = found; page_is = c.pass-pass.ensures.page; serial_is = c.pass-pass.ensures.serial } in
     rw (sym c.bytes.ensures)
-    (write_row _ _ _ _ _ c.in-Some.note c.pass-pass.result _ _ _ latest (λ no. latest-own c.args.page c.in-Some.note c.pass-pass.result c.args.client.now.session found c.pass-pass.ensures.client c.pass-pass.ensures.page c.pass-pass.ensures.serial (c.write_from-written.ensures.unknown no)) c.write_from-written.ensures.outcome)
+    (write_row _ _ _ _ _ c.in-Some.note c.pass-pass.result _ _ _ latest (λ no. latest-own c.args.page c.in-Some.note c.pass-pass.result c.args.client.now.session found c.pass-pass.ensures.client c.pass-pass.ensures.page c.pass-pass.ensures.serial (c.write_from-written.ensures.look.unknown no)) c.write_from-written.ensures.outcome)

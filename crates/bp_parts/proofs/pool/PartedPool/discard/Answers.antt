@@ -14,4 +14,4 @@ invariant_of-session g c =
 
 pub returns : goal.returns
 returns g c =
-    rw (← c.session.view_is, ← c.place-part.ensures.part, ← c.place-part.ensures.page) (record { client = refl; outcome = in_part _ c.place-part.result.0 _ _ c.index_mut-mine.result.now c.discard.new.session _ c.session.invariant.1 (omega (arith, c.session.invariant.0, c.place-part.ensures.few)) c.index_mut-mine.ensures.value (record { keeps = c.discard.ensures.keeps; outcome = c.discard.ensures.outcome; room = c.discard.ensures.room; memory = c.discard.ensures.memory }) })
+    rw (← c.session.view_is, ← c.place-part.ensures.part, ← c.place-part.ensures.page) (record { client = refl; outcome = in_part _ c.place-part.result.0 _ _ c.index_mut-mine.result.now c.discard.new.session _ c.session.invariant.1 (omega (arith, c.session.invariant.0, c.place-part.ensures.few)) c.index_mut-mine.ensures.value (c.discard.ensures) })

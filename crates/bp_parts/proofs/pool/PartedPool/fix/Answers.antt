@@ -12,11 +12,11 @@ pool_of-requires g c =
 
 pub invariant_of-session : goal.invariant_of-session
 invariant_of-session g c =
-    (search rules, kept_by _ c.place-part.result.0 c.session.inside.sessions.items c.index_mut-mine.result.now c.fix.new.session _ c.session.invariant.1 (omega (arith, c.session.invariant.0, c.place-part.ensures.few)) c.index_mut-mine.ensures.value c.fix.ensures.keeps.client (stays _ _ _ _ _ c.fix.ensures.keeps))
+    (search rules, kept_by _ c.place-part.result.0 c.session.inside.sessions.items c.index_mut-mine.result.now c.fix.new.session _ c.session.invariant.1 (omega (arith, c.session.invariant.0, c.place-part.ensures.few)) c.index_mut-mine.ensures.value c.fix.ensures.fix.keeps.client (stays _ _ _ _ _ c.fix.ensures.fix.keeps))
 
 pub returns : goal.returns
 returns g c =
-    let did = in_part _ c.place-part.result.0 _ _ c.index_mut-mine.result.now c.fix.new.session _ c.session.invariant.1 (omega (arith, c.session.invariant.0, c.place-part.ensures.few)) c.index_mut-mine.ensures.value (record { keeps = c.fix.ensures.keeps; outcome = c.fix.ensures.outcome; room = c.fix.ensures.room; memory = c.fix.ensures.memory; roomy = c.fix.ensures.roomy; known = c.fix.ensures.known }, rw (c.turn_to.ensures, c.from.ensures) at c.fix.ensures.work) in
+    let did = in_part _ c.place-part.result.0 _ _ c.index_mut-mine.result.now c.fix.new.session _ c.session.invariant.1 (omega (arith, c.session.invariant.0, c.place-part.ensures.few)) c.index_mut-mine.ensures.value (c.fix.ensures.fix, rw (c.turn_to.ensures, c.from.ensures) at c.fix.ensures.work) in
     let stripes = parts_stay g.S.Store.reads g.S.Store.writes c.index_mut-mine.result.now c.fix.new.session _ _ _ _ c.fix.ensures.work ∙ ap (λ p. p.parts) c.turn_to.ensures in
     let device = c.fix.ensures.port ∙ ap (λ p. p.file.device) c.turn_to.ensures in
     rw (← c.session.view_is, ← c.place-part.ensures.part, ← c.place-part.ensures.page) (elim c.match-fix.branch [

@@ -12,11 +12,11 @@ pool_of-requires g c =
 
 pub invariant_of-session : goal.invariant_of-session
 invariant_of-session g c =
-    (search rules, kept_by _ c.place-part.result.0 c.session.inside.sessions.items c.index_mut-mine.result.now c.fix_new.new.session _ c.session.invariant.1 (omega (arith, c.session.invariant.0, c.place-part.ensures.few)) c.index_mut-mine.ensures.value c.fix_new.ensures.keeps.client (stays _ _ _ _ _ c.fix_new.ensures.keeps))
+    (search rules, kept_by _ c.place-part.result.0 c.session.inside.sessions.items c.index_mut-mine.result.now c.fix_new.new.session _ c.session.invariant.1 (omega (arith, c.session.invariant.0, c.place-part.ensures.few)) c.index_mut-mine.ensures.value c.fix_new.ensures.fix.keeps.client (stays _ _ _ _ _ c.fix_new.ensures.fix.keeps))
 
 pub returns : goal.returns
 returns g c =
-    let did = in_part _ c.place-part.result.0 _ _ c.index_mut-mine.result.now c.fix_new.new.session _ c.session.invariant.1 (omega (arith, c.session.invariant.0, c.place-part.ensures.few)) c.index_mut-mine.ensures.value (record { keeps = c.fix_new.ensures.keeps; outcome = c.fix_new.ensures.outcome; room = c.fix_new.ensures.room; memory = c.fix_new.ensures.memory; roomy = c.fix_new.ensures.roomy; known = c.fix_new.ensures.known }, rw (c.turn_to.ensures, c.from.ensures) at c.fix_new.ensures.work) in
+    let did = in_part _ c.place-part.result.0 _ _ c.index_mut-mine.result.now c.fix_new.new.session _ c.session.invariant.1 (omega (arith, c.session.invariant.0, c.place-part.ensures.few)) c.index_mut-mine.ensures.value (c.fix_new.ensures.fix, rw (c.turn_to.ensures, c.from.ensures) at c.fix_new.ensures.work) in
     let stripes = new_parts_stay g.S.Store.writes c.index_mut-mine.result.now c.fix_new.new.session _ _ _ _ c.fix_new.ensures.work ∙ ap (λ p. p.parts) c.turn_to.ensures in
     let device = c.fix_new.ensures.port ∙ ap (λ p. p.file.device) c.turn_to.ensures in
     rw (← c.session.view_is, ← c.place-part.ensures.part, ← c.place-part.ensures.page) (elim c.match-fix_new.branch [

@@ -11,11 +11,11 @@ pool_of-requires g c =
 
 pub invariant_of-session : goal.invariant_of-session
 invariant_of-session g c =
-    (search rules, kept_by _ c.place-part.result.0 c.session.inside.sessions.items c.index_mut-mine.result.now c.flush.new.session _ c.session.invariant.1 (omega (arith, c.session.invariant.0, c.place-part.ensures.few)) c.index_mut-mine.ensures.value c.flush.ensures.keeps.client (stays _ _ _ _ _ c.flush.ensures.keeps))
+    (search rules, kept_by _ c.place-part.result.0 c.session.inside.sessions.items c.index_mut-mine.result.now c.flush.new.session _ c.session.invariant.1 (omega (arith, c.session.invariant.0, c.place-part.ensures.few)) c.index_mut-mine.ensures.value c.flush.ensures.flush.keeps.client (stays _ _ _ _ _ c.flush.ensures.flush.keeps))
 
 pub returns-clause-outcome : goal.returns-clause-outcome
 returns-clause-outcome g c =
-    rw (← c.session.view_is, ← c.place-part.ensures.part, ← c.place-part.ensures.page) (in_part _ c.place-part.result.0 _ _ c.index_mut-mine.result.now c.flush.new.session _ c.session.invariant.1 (omega (arith, c.session.invariant.0, c.place-part.ensures.few)) c.index_mut-mine.ensures.value (record { keeps = c.flush.ensures.keeps; outcome = c.flush.ensures.outcome; room = c.flush.ensures.room; memory = c.flush.ensures.memory; roomy = c.flush.ensures.roomy; known = c.flush.ensures.known }, rw (c.turn_to.ensures, c.from.ensures) at c.flush.ensures.work))
+    rw (← c.session.view_is, ← c.place-part.ensures.part, ← c.place-part.ensures.page) (in_part _ c.place-part.result.0 _ _ c.index_mut-mine.result.now c.flush.new.session _ c.session.invariant.1 (omega (arith, c.session.invariant.0, c.place-part.ensures.few)) c.index_mut-mine.ensures.value (c.flush.ensures.flush, rw (c.turn_to.ensures, c.from.ensures) at c.flush.ensures.work))
 
 pub returns-clause-stripes : goal.returns-clause-stripes
 returns-clause-stripes g c = parts_stay g.S.Store.reads g.S.Store.writes c.index_mut-mine.result.now c.flush.new.session _ _ _ _ c.flush.ensures.work ∙ ap (λ p. p.parts) c.turn_to.ensures

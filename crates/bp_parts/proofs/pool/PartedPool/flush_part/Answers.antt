@@ -11,11 +11,11 @@ pool_of-requires g c =
 
 pub invariant_of-session : goal.invariant_of-session
 invariant_of-session g c =
-    (search rules, kept_by _ c.args.part c.session.inside.sessions.items c.index_mut-mine.result.now c.flush_all.new.session _ c.session.invariant.1 (omega (arith, c.session.invariant.0, c.requires.part)) c.index_mut-mine.ensures.value c.flush_all.ensures.client c.flush_all.ensures.acted.part)
+    (search rules, kept_by _ c.args.part c.session.inside.sessions.items c.index_mut-mine.result.now c.flush_all.new.session _ c.session.invariant.1 (omega (arith, c.session.invariant.0, c.requires.part)) c.index_mut-mine.ensures.value c.flush_all.ensures.flushes.client c.flush_all.ensures.flushes.acted.part)
 
 pub returns-clause-outcome : goal.returns-clause-outcome
 returns-clause-outcome g c =
-    rw (← c.session.view_is) (in_part _ c.args.part _ _ c.index_mut-mine.result.now c.flush_all.new.session _ c.session.invariant.1 (omega (arith, c.session.invariant.0, c.requires.part)) c.index_mut-mine.ensures.value (record { client = c.flush_all.ensures.client; before = c.flush_all.ensures.before; acted = c.flush_all.ensures.acted; roomy = c.flush_all.ensures.roomy; outcome = c.flush_all.ensures.outcome; known = c.flush_all.ensures.known; room = c.flush_all.ensures.room; memory = c.flush_all.ensures.memory }, rw (c.turn_to.ensures, c.from.ensures) at c.flush_all.ensures.work))
+    rw (← c.session.view_is) (in_part _ c.args.part _ _ c.index_mut-mine.result.now c.flush_all.new.session _ c.session.invariant.1 (omega (arith, c.session.invariant.0, c.requires.part)) c.index_mut-mine.ensures.value (c.flush_all.ensures.flushes, rw (c.turn_to.ensures, c.from.ensures) at c.flush_all.ensures.work))
 
 pub returns-clause-stripes : goal.returns-clause-stripes
 returns-clause-stripes g c = parts_stay g.S.Store.reads g.S.Store.writes c.index_mut-mine.result.now c.flush_all.new.session _ _ _ _ c.flush_all.ensures.work ∙ ap (λ p. p.parts) c.turn_to.ensures

@@ -10,8 +10,8 @@ pool_of-requires g c =
 
 pub invariant_of-session : goal.invariant_of-session
 invariant_of-session g c =
-    (search rules, kept_by _ c.args.pass.now.part c.session.inside.sessions.items c.index_mut-mine.result.now c.read_into.new.session _ c.session.invariant.1 (omega (arith, c.session.invariant.0, c.requires.part)) c.index_mut-mine.ensures.value c.read_into.ensures.keeps.client (stays _ _ _ _ _ c.read_into.ensures.keeps))
+    (search rules, kept_by _ c.args.pass.now.part c.session.inside.sessions.items c.index_mut-mine.result.now c.read_into.new.session _ c.session.invariant.1 (omega (arith, c.session.invariant.0, c.requires.part)) c.index_mut-mine.ensures.value c.read_into.ensures.look.keeps.client (stays _ _ _ _ _ c.read_into.ensures.look.keeps))
 
 pub returns : goal.returns
 returns g c =
-    rw (← c.session.view_is) (record { client = refl; outcome = in_part _ c.args.pass.now.part _ _ c.index_mut-mine.result.now c.read_into.new.session _ c.session.invariant.1 (omega (arith, c.session.invariant.0, c.requires.part)) c.index_mut-mine.ensures.value (record { keeps = c.read_into.ensures.keeps; stranger = c.read_into.ensures.stranger; unknown = c.read_into.ensures.unknown; room = c.read_into.ensures.room; memory = c.read_into.ensures.memory }, c.read_into.ensures.outcome) })
+    rw (← c.session.view_is) (record { client = refl; outcome = in_part _ c.args.pass.now.part _ _ c.index_mut-mine.result.now c.read_into.new.session _ c.session.invariant.1 (omega (arith, c.session.invariant.0, c.requires.part)) c.index_mut-mine.ensures.value (c.read_into.ensures.look, c.read_into.ensures.outcome) })

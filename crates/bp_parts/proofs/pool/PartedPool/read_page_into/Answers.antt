@@ -11,12 +11,12 @@ pool_of-requires g c =
 
 pub invariant_of-session : goal.invariant_of-session
 invariant_of-session g c =
-    (search rules, kept_by _ c.place-part.result.0 c.session.inside.sessions.items c.index_mut-mine.result.now c.read_page_into.new.session _ c.session.invariant.1 (omega (arith, c.session.invariant.0, c.place-part.ensures.few)) c.index_mut-mine.ensures.value c.read_page_into.ensures.keeps.client (stays _ _ _ _ _ c.read_page_into.ensures.keeps))
+    (search rules, kept_by _ c.place-part.result.0 c.session.inside.sessions.items c.index_mut-mine.result.now c.read_page_into.new.session _ c.session.invariant.1 (omega (arith, c.session.invariant.0, c.place-part.ensures.few)) c.index_mut-mine.ensures.value c.read_page_into.ensures.read.keeps.client (stays _ _ _ _ _ c.read_page_into.ensures.read.keeps))
 
 pub returns-clause-outcome : goal.returns-clause-outcome
 returns-clause-outcome g c =
     let read = c.read_page_into.ensures in
-    rw (← c.session.view_is, ← c.place-part.ensures.part, ← c.place-part.ensures.page) (in_part _ c.place-part.result.0 _ _ c.index_mut-mine.result.now c.read_page_into.new.session _ c.session.invariant.1 (omega (arith, c.session.invariant.0, c.place-part.ensures.few)) c.index_mut-mine.ensures.value (record { keeps = read.keeps; at_once = read.at_once; room = read.room; memory = read.memory; roomy = read.roomy; known = read.known; held = read.held }, read.outcome, rw (c.turn_to.ensures, c.from.ensures) at c.read_page_into.ensures.work))
+    rw (← c.session.view_is, ← c.place-part.ensures.part, ← c.place-part.ensures.page) (in_part _ c.place-part.result.0 _ _ c.index_mut-mine.result.now c.read_page_into.new.session _ c.session.invariant.1 (omega (arith, c.session.invariant.0, c.place-part.ensures.few)) c.index_mut-mine.ensures.value (read.read, read.outcome, rw (c.turn_to.ensures, c.from.ensures) at c.read_page_into.ensures.work))
 
 pub returns-clause-stripes : goal.returns-clause-stripes
 returns-clause-stripes g c = parts_stay g.S.Store.reads g.S.Store.writes c.index_mut-mine.result.now c.read_page_into.new.session _ _ _ _ c.read_page_into.ensures.work ∙ ap (λ p. p.parts) c.turn_to.ensures

@@ -10,8 +10,8 @@ pool_of-requires g c =
 
 pub invariant_of-session : goal.invariant_of-session
 invariant_of-session g c =
-    (search rules, kept_by _ c.args.pass.now.part c.session.inside.sessions.items c.index_mut-mine.result.now c.write_from.new.session _ c.session.invariant.1 (omega (arith, c.session.invariant.0, c.requires.part)) c.index_mut-mine.ensures.value c.write_from.ensures.keeps.client (stays _ _ _ _ _ c.write_from.ensures.keeps))
+    (search rules, kept_by _ c.args.pass.now.part c.session.inside.sessions.items c.index_mut-mine.result.now c.write_from.new.session _ c.session.invariant.1 (omega (arith, c.session.invariant.0, c.requires.part)) c.index_mut-mine.ensures.value c.write_from.ensures.look.keeps.client (stays _ _ _ _ _ c.write_from.ensures.look.keeps))
 
 pub returns : goal.returns
 returns g c =
-    rw (← c.session.view_is) (record { client = refl; outcome = in_part _ c.args.pass.now.part _ _ c.index_mut-mine.result.now c.write_from.new.session _ c.session.invariant.1 (omega (arith, c.session.invariant.0, c.requires.part)) c.index_mut-mine.ensures.value (record { keeps = c.write_from.ensures.keeps; stranger = c.write_from.ensures.stranger; unknown = c.write_from.ensures.unknown; room = c.write_from.ensures.room; memory = (λ silent roomy. c.write_from.ensures.memory silent) }, c.write_from.ensures.outcome) })
+    rw (← c.session.view_is) (record { client = refl; outcome = in_part _ c.args.pass.now.part _ _ c.index_mut-mine.result.now c.write_from.new.session _ c.session.invariant.1 (omega (arith, c.session.invariant.0, c.requires.part)) c.index_mut-mine.ensures.value (c.write_from.ensures.look, c.write_from.ensures.outcome) })

@@ -22,13 +22,15 @@ returns-in-Ok-Hit g c =
     let asked = acts_on _ _ _ _ (may_act _ _ _ _ _ c.make.ensures.acts) in
     let had = rw c.in-Ok-Hit.field-0-is at (c.in-Ok-Hit.ensures.had (λ lacks. let is = lacks in cc)) in
     record {
-      keeps = record { client = c.make.ensures.client ∙ i.client; before = c.make.ensures.before ∙ i.before; acts = all_more _ _ _ _ _ i.acts c.in-Ok-Hit.ensures.acts; roomy = λ was. (omega (arith, had.0), omega (arith, had.1)) };
-      room = λ full. absurd (let no = full in cc);
-      memory = λ silent was no. absurd (let is = no in cc);
-      roomy = λ not. (omega (arith, had.0), omega (arith, had.1));
+      fix = record {
+        keeps = record { client = c.make.ensures.client ∙ i.client; before = c.make.ensures.before ∙ i.before; acts = all_more _ _ _ _ _ i.acts c.in-Ok-Hit.ensures.acts; roomy = λ was. (omega (arith, had.0), omega (arith, had.1)) };
+        room = λ full. absurd (let no = full in cc);
+        memory = λ silent was no. absurd (let is = no in cc);
+        roomy = λ not. (omega (arith, had.0), omega (arith, had.1));
+        outcome = hit_said _ _ c.in-Ok-Hit.pass _ _ (turn_more _ _ _ _ _ _ i.waits t);
+        known = λ unknown. let no = unknown in cc;
+      };
       port = i.port;
-      outcome = hit_said _ _ c.in-Ok-Hit.pass _ _ (turn_more _ _ _ _ _ _ i.waits t);
-      known = λ unknown. let no = unknown in cc;
       work = work_seen _ _ c.args.session.now c.loop.session c.make.new.session _ _ _ _ asked (fix-turn-work _ _ _ _ _ _ _ _ _ _ i.work t);
     }
 
@@ -39,13 +41,15 @@ returns-in-Ok-Load g c =
     let asked = acts_on _ _ _ _ (may_act _ _ _ _ _ c.make.ensures.acts) in
     let had = rw c.in-Ok-Load.field-0-is at (c.in-Ok-Load.ensures.had (λ lacks. let is = lacks in cc)) in
     record {
-      keeps = record { client = c.load.ensures.client ∙ c.make.ensures.client ∙ i.client; before = c.load.ensures.before ∙ c.make.ensures.before ∙ i.before; acts = acted _ _ _ _ _ (all_more _ _ _ _ _ (may_more _ _ _ _ _ i.acts (may_act _ _ _ _ _ c.make.ensures.acts)) c.load.ensures.acted); roomy = λ was. (omega (arith, had.0, c.load.ensures.passes), omega (arith, had.1, c.load.ensures.places)) };
-      room = λ full. absurd (load_not_full _ _ _ _ _ _ _ c.load.ensures.outcome full);
-      memory = λ silent was no. absurd (load_wants_none _ _ _ _ _ _ _ c.load.ensures.outcome no);
-      roomy = λ not. (omega (arith, had.0, c.load.ensures.passes), omega (arith, had.1, c.load.ensures.places));
+      fix = record {
+        keeps = record { client = c.load.ensures.client ∙ c.make.ensures.client ∙ i.client; before = c.load.ensures.before ∙ c.make.ensures.before ∙ i.before; acts = acted _ _ _ _ _ (all_more _ _ _ _ _ (may_more _ _ _ _ _ i.acts (may_act _ _ _ _ _ c.make.ensures.acts)) c.load.ensures.acted); roomy = λ was. (omega (arith, had.0, c.load.ensures.passes), omega (arith, had.1, c.load.ensures.places)) };
+        room = λ full. absurd (load_not_full _ _ _ _ _ _ _ c.load.ensures.outcome full);
+        memory = λ silent was no. absurd (load_wants_none _ _ _ _ _ _ _ c.load.ensures.outcome no);
+        roomy = λ not. (omega (arith, had.0, c.load.ensures.passes), omega (arith, had.1, c.load.ensures.places));
+        outcome = load_said _ _ _ _ _ c.in-Ok-Load.ticket _ _ _ _ _ (turn_more _ _ _ _ _ _ i.waits t) c.load.ensures.outcome;
+        known = c.load.ensures.known;
+      };
       port = c.load.ensures.port ∙ i.port;
-      outcome = load_said _ _ _ _ _ c.in-Ok-Load.ticket _ _ _ _ _ (turn_more _ _ _ _ _ _ i.waits t) c.load.ensures.outcome;
-      known = c.load.ensures.known;
       work = load-work _ _ c.in-Ok-Load.ticket _ _ _ _ _ _ _ (work_seen _ _ c.args.session.now c.loop.session c.load.new.session _ _ _ _ (seen_on _ _ _ asked c.load.ensures.acted.goes_on) (fix-turn-work _ _ _ _ _ _ _ _ _ _ i.work t)) c.load.ensures.outcome c.load.ensures.known;
     }
 
@@ -81,14 +85,16 @@ returns-in_err-write_out-in-Ok-WriteFirst g c =
     let is = err_from_is_err_and c.from_residual.result c.from_residual.ensures.1 in
     let known = c.in_err-write_out-in-Ok-WriteFirst.ensures.known in
     record {
-      keeps = record { client = c.write_out.ensures.client ∙ c.make.ensures.client ∙ i.client; before = c.write_out.ensures.before ∙ c.make.ensures.before ∙ i.before; acts = acted _ _ _ _ _ (all_more _ _ _ _ _ (may_more _ _ _ _ _ i.acts (may_act _ _ _ _ _ c.make.ensures.acts)) c.write_out.ensures.acted); roomy = λ was. (omega (arith, had.0, c.write_out.ensures.passes), omega (arith, had.1, c.write_out.ensures.places)) };
-      room = λ full. absurd (write_not_full _ _ _ _ _ _ _ o (same_why (sym (is.1 ∙ ap Err is.2) ∙ full)));
-      memory = λ silent was no. absurd (write_wants_none _ _ _ _ _ _ _ o (same_why (sym (is.1 ∙ ap Err is.2) ∙ no)));
-      roomy = λ not. (omega (arith, had.0, c.write_out.ensures.passes), omega (arith, had.1, c.write_out.ensures.places));
+      fix = record {
+        keeps = record { client = c.write_out.ensures.client ∙ c.make.ensures.client ∙ i.client; before = c.write_out.ensures.before ∙ c.make.ensures.before ∙ i.before; acts = acted _ _ _ _ _ (all_more _ _ _ _ _ (may_more _ _ _ _ _ i.acts (may_act _ _ _ _ _ c.make.ensures.acts)) c.write_out.ensures.acted); roomy = λ was. (omega (arith, had.0, c.write_out.ensures.passes), omega (arith, had.1, c.write_out.ensures.places)) };
+        room = λ full. absurd (write_not_full _ _ _ _ _ _ _ o (same_why (sym (is.1 ∙ ap Err is.2) ∙ full)));
+        memory = λ silent was no. absurd (write_wants_none _ _ _ _ _ _ _ o (same_why (sym (is.1 ∙ ap Err is.2) ∙ no)));
+        roomy = λ not. (omega (arith, had.0, c.write_out.ensures.passes), omega (arith, had.1, c.write_out.ensures.places));
+        outcome = subst (λ r. FixSaid c.args.session.now.client c.args.page r c.args.session.now.said c.write_out.new.session.said) (sym (is.1 ∙ ap Err is.2))
+            (unwritten_said _ _ _ _ _ c.in-Ok-WriteFirst.ticket c.in_err-write_out-in-Ok-WriteFirst.field-0.0 _ _ _ (turn_more _ _ _ _ _ _ i.waits t) o);
+        known = λ unknown. known (unerr (sym (is.1 ∙ ap Err is.2) ∙ unknown));
+      };
       port = c.write_out.ensures.port ∙ i.port;
-      outcome = subst (λ r. FixSaid c.args.session.now.client c.args.page r c.args.session.now.said c.write_out.new.session.said) (sym (is.1 ∙ ap Err is.2))
-          (unwritten_said _ _ _ _ _ c.in-Ok-WriteFirst.ticket c.in_err-write_out-in-Ok-WriteFirst.field-0.0 _ _ _ (turn_more _ _ _ _ _ _ i.waits t) o);
-      known = λ unknown. known (unerr (sym (is.1 ∙ ap Err is.2) ∙ unknown));
       work = write-work _ _ c.in-Ok-WriteFirst.ticket _ _ _ _ _ _ _ (work_seen _ _ c.args.session.now c.loop.session c.write_out.new.session _ _ _ _ (seen_on _ _ _ asked c.write_out.ensures.acted.goes_on) (fix-turn-work _ _ _ _ _ _ _ _ _ _ i.work t)) (began-by-fix _ _ c.in-Ok-WriteFirst.ticket _ _ t) wrote known;
     }
 
@@ -102,4 +108,15 @@ pub returns-in_default : goal.returns-in_default
 returns-in_default g c =
     let i = c.loop.invariant in
     let t = rw i.client at c.in-Err.ensures.outcome in
-    record { keeps = record { client = c.make.ensures.client ∙ i.client; before = c.make.ensures.before ∙ i.before; acts = refused_more Fixing Pass _ _ _ _ _ _ i.acts c.in-Err.ensures.acts; roomy = λ was. (omega (arith, was.0, i.passes, c.in-Err.ensures.passes_left), omega (arith, was.1, i.places, c.in-Err.ensures.places_left)) }; room = λ full. c.in-Err.ensures.why _ (same_why full) (λ is. cc); memory = λ silent was no. c.in-Err.ensures.memory silent (omega (arith, was.0, i.passes)) (omega (arith, was.1, i.places)) (same_why no); roomy = λ not. let had = c.in-Err.ensures.had (λ no. not (same_why no)) in (omega (arith, had.0), omega (arith, had.1)); port = i.port; outcome = refused_said _ _ c.in-Err.refusal _ _ c.in_default.not-Busy (turn_more _ _ _ _ _ _ i.waits t); known = known-fix Pass c.in-Err.refusal t.asks.0; work = work_seen _ _ c.args.session.now c.loop.session c.make.new.session _ _ _ _ (acts_on _ _ _ _ (may_act _ _ _ _ _ c.make.ensures.acts)) (fix-turn-work _ _ _ _ _ _ _ _ _ _ i.work t) }
+    record {
+      fix = record {
+        keeps = record { client = c.make.ensures.client ∙ i.client; before = c.make.ensures.before ∙ i.before; acts = refused_more Fixing Pass _ _ _ _ _ _ i.acts c.in-Err.ensures.acts; roomy = λ was. (omega (arith, was.0, i.passes, c.in-Err.ensures.passes_left), omega (arith, was.1, i.places, c.in-Err.ensures.places_left)) };
+        room = λ full. c.in-Err.ensures.why _ (same_why full) (λ is. cc);
+        memory = λ silent was no. c.in-Err.ensures.memory silent (omega (arith, was.0, i.passes)) (omega (arith, was.1, i.places)) (same_why no);
+        roomy = λ not. let had = c.in-Err.ensures.had (λ no. not (same_why no)) in (omega (arith, had.0), omega (arith, had.1));
+        outcome = refused_said _ _ c.in-Err.refusal _ _ c.in_default.not-Busy (turn_more _ _ _ _ _ _ i.waits t);
+        known = known-fix Pass c.in-Err.refusal t.asks.0;
+      };
+      port = i.port;
+      work = work_seen _ _ c.args.session.now c.loop.session c.make.new.session _ _ _ _ (acts_on _ _ _ _ (may_act _ _ _ _ _ c.make.ensures.acts)) (fix-turn-work _ _ _ _ _ _ _ _ _ _ i.work t);
+    }

@@ -22,13 +22,15 @@ returns-in-Ok-Clean g c =
     let asked = acts_on _ _ _ _ (may_act _ _ _ _ _ c.make.ensures.acts) in
     let had = rw c.in-Ok-Clean.field-0-is at (c.in-Ok-Clean.ensures.had (λ lacks. let is = lacks in cc)) in
     record {
-      keeps = record { client = c.make.ensures.client ∙ i.client; before = c.make.ensures.before ∙ i.before; acts = all_more _ _ _ _ _ i.acts c.in-Ok-Clean.ensures.acts; roomy = λ was. (omega (arith, had.0), omega (arith, had.1)) };
-      room = λ full. absurd (let no = full in cc);
-      memory = λ silent was no. absurd (let is = no in cc);
-      roomy = λ not. (omega (arith, had.0), omega (arith, had.1));
+      flush = record {
+        keeps = record { client = c.make.ensures.client ∙ i.client; before = c.make.ensures.before ∙ i.before; acts = all_more _ _ _ _ _ i.acts c.in-Ok-Clean.ensures.acts; roomy = λ was. (omega (arith, had.0), omega (arith, had.1)) };
+        room = λ full. absurd (let no = full in cc);
+        memory = λ silent was no. absurd (let is = no in cc);
+        roomy = λ not. (omega (arith, had.0), omega (arith, had.1));
+        outcome = clean_said _ _ _ _ (flush_turn_more _ _ _ _ _ _ i.waits t);
+        known = λ unknown. let no = unknown in cc;
+      };
       port = i.port;
-      outcome = clean_said _ _ _ _ (flush_turn_more _ _ _ _ _ _ i.waits t);
-      known = λ unknown. let no = unknown in cc;
       work = work_seen _ _ c.args.session.now c.loop.session c.make.new.session _ _ _ _ asked (flush-turn-work _ _ _ _ _ _ _ _ _ _ i.work t);
     }
 
@@ -39,13 +41,15 @@ returns-in-Ok-Absent g c =
     let asked = acts_on _ _ _ _ (may_act _ _ _ _ _ c.make.ensures.acts) in
     let had = rw c.in-Ok-Absent.field-0-is at (c.in-Ok-Absent.ensures.had (λ lacks. let is = lacks in cc)) in
     record {
-      keeps = record { client = c.make.ensures.client ∙ i.client; before = c.make.ensures.before ∙ i.before; acts = all_more _ _ _ _ _ i.acts c.in-Ok-Absent.ensures.acts; roomy = λ was. (omega (arith, had.0), omega (arith, had.1)) };
-      room = λ full. absurd (let no = full in cc);
-      memory = λ silent was no. absurd (let is = no in cc);
-      roomy = λ not. (omega (arith, had.0), omega (arith, had.1));
+      flush = record {
+        keeps = record { client = c.make.ensures.client ∙ i.client; before = c.make.ensures.before ∙ i.before; acts = all_more _ _ _ _ _ i.acts c.in-Ok-Absent.ensures.acts; roomy = λ was. (omega (arith, had.0), omega (arith, had.1)) };
+        room = λ full. absurd (let no = full in cc);
+        memory = λ silent was no. absurd (let is = no in cc);
+        roomy = λ not. (omega (arith, had.0), omega (arith, had.1));
+        outcome = absent_said _ _ _ _ (flush_turn_more _ _ _ _ _ _ i.waits t);
+        known = λ unknown. let no = unknown in cc;
+      };
       port = i.port;
-      outcome = absent_said _ _ _ _ (flush_turn_more _ _ _ _ _ _ i.waits t);
-      known = λ unknown. let no = unknown in cc;
       work = work_seen _ _ c.args.session.now c.loop.session c.make.new.session _ _ _ _ asked (flush-turn-work _ _ _ _ _ _ _ _ _ _ i.work t);
     }
 
@@ -59,13 +63,15 @@ returns-in-Ok-WriteFirst g c =
     let o = rw c.in-Ok-WriteFirst.ticket-is at c.in_ok-ended-in-Ok-WriteFirst.ensures.outcome in
     let wrote = wrote_seen _ c.args.session.now c.loop.session c.make.new.session c.write_out.new.session c.in-Ok-WriteFirst.ticket _ _ _ _ _ i.client (acts_on _ _ _ _ i.acts) began c.write_out.ensures.acted.goes_on o in
     record {
-      keeps = record { client = c.write_out.ensures.client ∙ c.make.ensures.client ∙ i.client; before = c.write_out.ensures.before ∙ c.make.ensures.before ∙ i.before; acts = all_more _ _ _ _ _ (may_more _ _ _ _ _ i.acts (may_act _ _ _ _ _ c.make.ensures.acts)) c.write_out.ensures.acted; roomy = λ was. (omega (arith, had.0, c.write_out.ensures.passes), omega (arith, had.1, c.write_out.ensures.places)) };
-      room = λ full. absurd (ok-is-no-err _ _ full);
-      memory = λ silent was no. absurd (ok-is-no-err _ _ no);
-      roomy = λ not. (omega (arith, had.0, c.write_out.ensures.passes), omega (arith, had.1, c.write_out.ensures.places));
+      flush = record {
+        keeps = record { client = c.write_out.ensures.client ∙ c.make.ensures.client ∙ i.client; before = c.write_out.ensures.before ∙ c.make.ensures.before ∙ i.before; acts = all_more _ _ _ _ _ (may_more _ _ _ _ _ i.acts (may_act _ _ _ _ _ c.make.ensures.acts)) c.write_out.ensures.acted; roomy = λ was. (omega (arith, had.0, c.write_out.ensures.passes), omega (arith, had.1, c.write_out.ensures.places)) };
+        room = λ full. absurd (ok-is-no-err _ _ full);
+        memory = λ silent was no. absurd (ok-is-no-err _ _ no);
+        roomy = λ not. (omega (arith, had.0, c.write_out.ensures.passes), omega (arith, had.1, c.write_out.ensures.places));
+        outcome = flushed_said _ _ _ _ _ c.in-Ok-WriteFirst.ticket c.in_ok-ended-in-Ok-WriteFirst.ended c.flushed.result _ _ _ (flush_turn_more _ _ _ _ _ _ i.waits t) c.flushed.ensures o;
+        known = ok-is-no-err _ _;
+      };
       port = c.write_out.ensures.port ∙ i.port;
-      outcome = flushed_said _ _ _ _ _ c.in-Ok-WriteFirst.ticket c.in_ok-ended-in-Ok-WriteFirst.ended c.flushed.result _ _ _ (flush_turn_more _ _ _ _ _ _ i.waits t) c.flushed.ensures o;
-      known = ok-is-no-err _ _;
       work = write-work _ _ c.in-Ok-WriteFirst.ticket _ _ _ _ _ _ _ (work_seen _ _ c.args.session.now c.loop.session c.write_out.new.session _ _ _ _ (seen_on _ _ _ asked c.write_out.ensures.acted.goes_on) (flush-turn-work _ _ _ _ _ _ _ _ _ _ i.work t)) (began-by-flush _ _ c.in-Ok-WriteFirst.ticket _ _ t) wrote (ok-is-no-err _ _);
     }
 
@@ -81,14 +87,16 @@ returns-in_err-ended-in-Ok-WriteFirst g c =
     let is = err_from_is_err_and c.from_residual.result c.from_residual.ensures.1 in
     let known = c.in_err-ended-in-Ok-WriteFirst.ensures.known in
     record {
-      keeps = record { client = c.write_out.ensures.client ∙ c.make.ensures.client ∙ i.client; before = c.write_out.ensures.before ∙ c.make.ensures.before ∙ i.before; acts = acted _ _ _ _ _ (all_more _ _ _ _ _ (may_more _ _ _ _ _ i.acts (may_act _ _ _ _ _ c.make.ensures.acts)) c.write_out.ensures.acted); roomy = λ was. (omega (arith, had.0, c.write_out.ensures.passes), omega (arith, had.1, c.write_out.ensures.places)) };
-      room = λ full. absurd (write_not_full _ _ _ _ _ _ _ o (same_why (sym (is.1 ∙ ap Err is.2) ∙ full)));
-      memory = λ silent was no. absurd (write_wants_none _ _ _ _ _ _ _ o (same_why (sym (is.1 ∙ ap Err is.2) ∙ no)));
-      roomy = λ not. (omega (arith, had.0, c.write_out.ensures.passes), omega (arith, had.1, c.write_out.ensures.places));
+      flush = record {
+        keeps = record { client = c.write_out.ensures.client ∙ c.make.ensures.client ∙ i.client; before = c.write_out.ensures.before ∙ c.make.ensures.before ∙ i.before; acts = acted _ _ _ _ _ (all_more _ _ _ _ _ (may_more _ _ _ _ _ i.acts (may_act _ _ _ _ _ c.make.ensures.acts)) c.write_out.ensures.acted); roomy = λ was. (omega (arith, had.0, c.write_out.ensures.passes), omega (arith, had.1, c.write_out.ensures.places)) };
+        room = λ full. absurd (write_not_full _ _ _ _ _ _ _ o (same_why (sym (is.1 ∙ ap Err is.2) ∙ full)));
+        memory = λ silent was no. absurd (write_wants_none _ _ _ _ _ _ _ o (same_why (sym (is.1 ∙ ap Err is.2) ∙ no)));
+        roomy = λ not. (omega (arith, had.0, c.write_out.ensures.passes), omega (arith, had.1, c.write_out.ensures.places));
+        outcome = subst (λ r. FlushSaid c.args.session.now.client c.args.page r c.args.session.now.said c.write_out.new.session.said) (sym (is.1 ∙ ap Err is.2))
+            (unflushed_said _ _ _ _ _ c.in-Ok-WriteFirst.ticket c.in_err-ended-in-Ok-WriteFirst.field-0.0 _ _ _ (flush_turn_more _ _ _ _ _ _ i.waits t) o);
+        known = λ unknown. known (unerr (sym (is.1 ∙ ap Err is.2) ∙ unknown));
+      };
       port = c.write_out.ensures.port ∙ i.port;
-      outcome = subst (λ r. FlushSaid c.args.session.now.client c.args.page r c.args.session.now.said c.write_out.new.session.said) (sym (is.1 ∙ ap Err is.2))
-          (unflushed_said _ _ _ _ _ c.in-Ok-WriteFirst.ticket c.in_err-ended-in-Ok-WriteFirst.field-0.0 _ _ _ (flush_turn_more _ _ _ _ _ _ i.waits t) o);
-      known = λ unknown. known (unerr (sym (is.1 ∙ ap Err is.2) ∙ unknown));
       work = write-work _ _ c.in-Ok-WriteFirst.ticket _ _ _ _ _ _ _ (work_seen _ _ c.args.session.now c.loop.session c.write_out.new.session _ _ _ _ (seen_on _ _ _ asked c.write_out.ensures.acted.goes_on) (flush-turn-work _ _ _ _ _ _ _ _ _ _ i.work t)) (began-by-flush _ _ c.in-Ok-WriteFirst.ticket _ _ t) wrote known;
     }
 
@@ -102,4 +110,15 @@ pub returns-in_default : goal.returns-in_default
 returns-in_default g c =
     let i = c.loop.invariant in
     let t = rw i.client at c.in-Err.ensures.outcome in
-    record { keeps = record { client = c.make.ensures.client ∙ i.client; before = c.make.ensures.before ∙ i.before; acts = refused_more Flushing Flushed _ _ _ _ _ _ i.acts c.in-Err.ensures.acts; roomy = λ was. (omega (arith, was.0, i.passes, c.in-Err.ensures.passes_left), omega (arith, was.1, i.places, c.in-Err.ensures.places_left)) }; room = λ full. c.in-Err.ensures.why _ (same_why full) (λ is. cc); memory = λ silent was no. c.in-Err.ensures.memory silent (omega (arith, was.0, i.passes)) (omega (arith, was.1, i.places)) (same_why no); roomy = λ not. let had = c.in-Err.ensures.had (λ no. not (same_why no)) in (omega (arith, had.0), omega (arith, had.1)); port = i.port; outcome = flush_refused_said _ _ c.in-Err.refusal _ _ c.in_default.not-Busy (flush_turn_more _ _ _ _ _ _ i.waits t); known = known-flush Flushed c.in-Err.refusal t.asks.0; work = work_seen _ _ c.args.session.now c.loop.session c.make.new.session _ _ _ _ (acts_on _ _ _ _ (may_act _ _ _ _ _ c.make.ensures.acts)) (flush-turn-work _ _ _ _ _ _ _ _ _ _ i.work t) }
+    record {
+      flush = record {
+        keeps = record { client = c.make.ensures.client ∙ i.client; before = c.make.ensures.before ∙ i.before; acts = refused_more Flushing Flushed _ _ _ _ _ _ i.acts c.in-Err.ensures.acts; roomy = λ was. (omega (arith, was.0, i.passes, c.in-Err.ensures.passes_left), omega (arith, was.1, i.places, c.in-Err.ensures.places_left)) };
+        room = λ full. c.in-Err.ensures.why _ (same_why full) (λ is. cc);
+        memory = λ silent was no. c.in-Err.ensures.memory silent (omega (arith, was.0, i.passes)) (omega (arith, was.1, i.places)) (same_why no);
+        roomy = λ not. let had = c.in-Err.ensures.had (λ no. not (same_why no)) in (omega (arith, had.0), omega (arith, had.1));
+        outcome = flush_refused_said _ _ c.in-Err.refusal _ _ c.in_default.not-Busy (flush_turn_more _ _ _ _ _ _ i.waits t);
+        known = known-flush Flushed c.in-Err.refusal t.asks.0;
+      };
+      port = i.port;
+      work = work_seen _ _ c.args.session.now c.loop.session c.make.new.session _ _ _ _ (acts_on _ _ _ _ (may_act _ _ _ _ _ c.make.ensures.acts)) (flush-turn-work _ _ _ _ _ _ _ _ _ _ i.work t);
+    }

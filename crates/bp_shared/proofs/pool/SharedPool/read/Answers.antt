@@ -16,18 +16,20 @@ returns-in_err-reserve g c =
     let why = is.1 ∙ ap Err (is.2 ∙ ap why-of refused.refused) in
     let own = sym c.client.ensures ∙ c.if-client.false ∙ c.client-2.ensures ∙ sym (ap (λ (s : SessionValue). s.client) c.session.view_is) in
     rw (← c.session.view_is) (record {
-      keeps = record {
-        client = refused.same.client;
-        before = refused.same.before;
-        acts = unasked _ _ _ _ _ why (record { part = refl; client = refused.same.client; said = refused.same.said; seen = refl; free = refl });
-        roomy = λ had. (omega (arith, refused.keeps_passes, had.0), omega (arith, refused.keeps_places, had.1));
+      read = record {
+        keeps = record {
+          client = refused.same.client;
+          before = refused.same.before;
+          acts = unasked _ _ _ _ _ why (record { part = refl; client = refused.same.client; said = refused.same.said; seen = refl; free = refl });
+          roomy = λ had. (omega (arith, refused.keeps_passes, had.0), omega (arith, refused.keeps_places, had.1));
+        };
+        room = λ full. absurd (let no = sym why ∙ full in cc);
+        stranger = λ not. absurd (not own);
+        unknown = λ is. absurd (let no = sym why ∙ is in cc);
+        memory = λ silent roomy no. inl (too_long _ _ refused.same.said (λ short. false≢true (refused.memory silent short (omega arith) (omega (arith, roomy.1)))));
+        outcome = subst (λ r. ReadSaid c.session.inside.book.client c.args.pass.now r c.session.inside.book.said c.reserve.new.self.said) (sym why) (own, refused.same.said);
       };
-      room = λ full. absurd (let no = sym why ∙ full in cc);
       size = subst (λ r. IfOk r (λ image. length image ≡ g.N.PartNames.parameters.size)) (sym why) tt;
-      stranger = λ not. absurd (not own);
-      unknown = λ is. absurd (let no = sym why ∙ is in cc);
-      memory = λ silent roomy no. inl (too_long _ _ refused.same.said (λ short. false≢true (refused.memory silent short (omega arith) (omega (arith, roomy.1)))));
-      outcome = subst (λ r. ReadSaid c.session.inside.book.client c.args.pass.now r c.session.inside.book.said c.reserve.new.self.said) (sym why) (own, refused.same.said);
     })
 
 pub returns : goal.returns
@@ -42,16 +44,18 @@ returns g c =
     let done = c.read.ensures in
     let own = sym c.client.ensures ∙ c.if-client.false ∙ c.client-2.ensures ∙ sym (ap (λ (s : SessionValue). s.client) c.session.view_is) in
     rw (← c.session.view_is) (record {
-      keeps = record {
-        client = done.client ∙ client;
-        before = done.before ∙ ap (λ (s : SessionValue). s.before) entered.session ∙ same.before;
-        acts = acted _ _ _ _ _ (begun _ _ _ _ _ entered.free (ap (λ (s : SessionValue). s.seen) entered.session) (ap (λ (s : SessionValue). s.part) entered.session) done.acted);
-        roomy = λ had. (omega (arith, grows.keeps_passes, passes, done.passes, had.0), omega (arith, grows.keeps_places, places, done.places, had.1));
+      read = record {
+        keeps = record {
+          client = done.client ∙ client;
+          before = done.before ∙ ap (λ (s : SessionValue). s.before) entered.session ∙ same.before;
+          acts = acted _ _ _ _ _ (begun _ _ _ _ _ entered.free (ap (λ (s : SessionValue). s.seen) entered.session) (ap (λ (s : SessionValue). s.part) entered.session) done.acted);
+          roomy = λ had. (omega (arith, grows.keeps_passes, passes, done.passes, had.0), omega (arith, grows.keeps_places, places, done.places, had.1));
+        };
+        room = done.room;
+        stranger = λ not. absurd (not own);
+        unknown = λ is. inr (sym (ap (pass_is_out c.args.pass.now) said) ∙ done.unknown is);
+        memory = λ silent roomy no. inr (done.memory no);
+        outcome = rw (client, said) at done.outcome;
       };
-      room = done.room;
       size = done.size;
-      stranger = λ not. absurd (not own);
-      unknown = λ is. inr (sym (ap (pass_is_out c.args.pass.now) said) ∙ done.unknown is);
-      memory = λ silent roomy no. inr (done.memory no);
-      outcome = rw (client, said) at done.outcome;
     })

@@ -10,11 +10,11 @@ use Rattle.bp_shared.proofs.pool.SharedPool.read_by_pass.Goals as goal
 pub returns-in_err-pass-clause-held : goal.returns-in_err-pass-clause-held
 returns-in_err-pass-clause-held g c unknown =
     let is = err_from_is_err_and c.from_residual.result c.from_residual.ensures.1 in
-    no_pass_asked _ _ _ _ _ c.in_err-pass.ensures.outcome (sym is.2 ∙ ap why-of (sym is.1 ∙ unknown))
+    no_pass_asked _ _ _ _ _ c.in_err-pass.ensures.fix.outcome (sym is.2 ∙ ap why-of (sym is.1 ∙ unknown))
 
 pub returns-clause-keeps : goal.returns-clause-keeps
 returns-clause-keeps g c =
-    let fixed = c.in_ok-pass.ensures.keeps in
+    let fixed = c.in_ok-pass.ensures.fix.keeps in
     let done = c.read_and_unfix.ensures in
     record {
       client = done.client ∙ fixed.client;

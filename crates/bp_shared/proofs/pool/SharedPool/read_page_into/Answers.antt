@@ -32,17 +32,6 @@ returns-then-branch-clause-work g c =
     look_work _ _ old.client c.args.page c.args.offset c.args.into.now look.into old.said look.session.said _
     (subst (λ (b : Bool). LookSaid old.client c.args.page c.args.offset c.args.into.now (Ok b) look.into old.said look.session.said) c.if-branch.true c.in_ok-read_if_resident.ensures.outcome)
 
-pub returns-clause-keeps : goal.returns-clause-keeps
-returns-clause-keeps g c =
-    let looked = c.in_ok-read_if_resident.ensures.keeps in
-    let done = c.read_by_pass.ensures.keeps in
-    record {
-      client = done.client ∙ looked.client;
-      before = done.before ∙ looked.before;
-      acts = acts_more _ _ c.read_by_pass.result c.args.session.now c.read_if_resident.new.session c.read_by_pass.new.session (inr looked.acts) done.acts;
-      roomy = λ was. done.roomy (looked.roomy was);
-    }
-
 pub returns-clause-work : goal.returns-clause-work
 returns-clause-work g c =
     let old = c.args.session.now in
@@ -51,12 +40,28 @@ returns-clause-work g c =
     let away = subst (λ (b : Bool). LookSaid old.client c.args.page c.args.offset c.args.into.now (Ok b) look.into old.said look.session.said) c.if-branch.false c.in_ok-read_if_resident.ensures.outcome in
     work_since _ _ old look.session c.read_by_pass.new.session _ _ _ _ looked.client looked.acts.goes_on (rw away.0 at c.read_by_pass.ensures.work)
 
-pub returns-clause-at_once : goal.returns-clause-at_once
-returns-clause-at_once g c ok =
+pub returns-clause-read : goal.returns-clause-read
+returns-clause-read g c =
     let old = c.args.session.now in
     let mid = c.read_if_resident.new.session in
     let look = c.in_ok-read_if_resident.ensures in
-    let done = acts_ok _ _ c.read_by_pass.result mid c.read_by_pass.new.session c.read_by_pass.ensures.keeps.acts ok in
-    let said = subst (λ (b : Bool). LookSaid old.client c.args.page c.args.offset c.args.into.now (Ok b) c.read_if_resident.new.into old.said mid.said) c.if-branch.false look.outcome in
-    let listed = subst (λ n. IsListOf g.N.PartNames.past mid.seen n mid.said) look.keeps.client look.keeps.acts.list_is in
-    inr (record { looked = mid.seen; list_is = subst (IsListOf g.N.PartNames.past mid.seen old.client) said.0 listed; before = look.keeps.acts.goes_on; after = done.goes_on; away = look.away (ap Ok c.if-branch.false) })
+    let looked = look.keeps in
+    let done = c.read_by_pass.ensures in
+    record {
+      keeps = record {
+        client = done.keeps.client ∙ looked.client;
+        before = done.keeps.before ∙ looked.before;
+        acts = acts_more _ _ c.read_by_pass.result old mid c.read_by_pass.new.session (inr looked.acts) done.keeps.acts;
+        roomy = λ was. done.keeps.roomy (looked.roomy was);
+      };
+      at_once = λ ok.
+          let acts = acts_ok _ _ c.read_by_pass.result mid c.read_by_pass.new.session done.keeps.acts ok in
+          let said = subst (λ (b : Bool). LookSaid old.client c.args.page c.args.offset c.args.into.now (Ok b) c.read_if_resident.new.into old.said mid.said) c.if-branch.false look.outcome in
+          let listed = subst (λ n. IsListOf g.N.PartNames.past mid.seen n mid.said) looked.client looked.acts.list_is in
+          inr (record { looked = mid.seen; list_is = subst (IsListOf g.N.PartNames.past mid.seen old.client) said.0 listed; before = looked.acts.goes_on; after = acts.goes_on; away = look.away (ap Ok c.if-branch.false) });
+      room = done.room;
+      memory = λ silent had. done.memory silent (look.roomy (λ no. cc));
+      roomy = done.roomy;
+      known = done.known;
+      held = done.held;
+    }

@@ -10,6 +10,6 @@ returns g c =
       keeps = record { client = done.client; before = done.before; acts = done.acts; roomy = roomy_still c.args.session.now c.make.new.session done.passes_left done.places_left };
       outcome = done.outcome;
       room = λ full. done.why _ full (λ is. cc);
-      clock = λ over. done.why _ over (λ is. cc);
+      clock_full = λ over. done.why _ over (λ is. cc);
       memory = λ silent no. or_never (done.memory silent (omega arith) (omega arith) no);
     }

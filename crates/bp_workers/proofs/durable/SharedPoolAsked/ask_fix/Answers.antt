@@ -11,4 +11,4 @@ roomy_fixed (Ok pass) session has = has (λ lacks. let is = lacks in cc)
 roomy_fixed (Err why) session has = tt
 
 pub returns-clause-roomy : goal.returns-clause-roomy
-returns-clause-roomy g c = roomy_fixed _ c.fix.new.session c.fix.ensures.roomy
+returns-clause-roomy g c = roomy_fixed _ c.fix.new.session c.fix.ensures.fix.roomy

@@ -1,5 +1,5 @@
--- What a call of the session in one part promises: to the letter what it does in a pool that stands
--- alone.
+-- What each call of a session promises, beside what it does with a device and a caller's bytes. A pool in parts
+-- promises the same of the session in the part.
 use Rattle.std.specs.Prelude.{◌≡◌, ◌≢◌, ◌⊎◌, ℕ, Bool, false, true, List, ◌+◌, ◌^◌, ◌<◌, Result, Err, IfErr, IsOk}
 use Rattle.bp_page.specs.declared.refusals.Refusal.{Refusal}
 use Rattle.bp_page.specs.declared.refusals.Refusal.TheVariants as refusal
@@ -17,7 +17,7 @@ use Rattle.bp_shared.specs.Sessions.{SessionValue, FixSaid, FlushSaid, DiscardSa
 use Rattle.bp_shared.specs.FlushAll.{FlushAllSaid}
 use Rattle.bp_shared.specs.Keeping.{Acted, IsReadAtOnce, KeepsSession, FillsRoom, WantsMemory}
 
--- a fix of the page with this number in the part
+-- a fix of the page with this number
 pub record FixesIn (refuses : Bool) (c : Parameters) (start : Trail) (page : ℕ)
     (given : Result Pass Refusal) (old new : SessionValue) : Type 0 where
   pub keeps : KeepsSession c start given old new
@@ -59,7 +59,7 @@ pub record DiscardsIn (refuses : Bool) (c : Parameters) (start : Trail) (page : 
   pub room : given ≡ Err refusal.TrailFull → FillsRoom 1 c new.seen
   pub memory : refuses ≡ false → given ≡ Err refusal.OutOfMemory → IsLong new
 
--- a flush of each unsaved page of the part
+-- a flush of each unsaved page
 pub record FlushesAllIn {A : Type 0} (refuses : Bool) (c : Parameters) (start : Trail)
     (given : Result A NotFlushed) (old new : SessionValue) : Type 0 where
   pub client : new.client ≡ old.client
@@ -73,7 +73,7 @@ pub record FlushesAllIn {A : Type 0} (refuses : Bool) (c : Parameters) (start : 
       stop.why ≡ refusal.OutOfMemory
       → IsLong new ⊎ WantsMemory (call.Flush stop.page) c new.seen)
 
--- so many ticks of the part's clock
+-- so many ticks of the clock
 pub record TicksIn {A : Type 0} (refuses : Bool) (c : Parameters) (start : Trail) (n : ℕ)
     (given : Result A Refusal) (old new : SessionValue) : Type 0 where
   pub keeps : KeepsSession c start given old new
@@ -82,7 +82,7 @@ pub record TicksIn {A : Type 0} (refuses : Bool) (c : Parameters) (start : Trail
   pub clock_full : given ≡ Err refusal.ClockFull → 2 ^ 62 < clock new.seen + n
   pub memory : refuses ≡ false → given ≡ Err refusal.OutOfMemory → IsLong new
 
--- a purge of the part's old references
+-- a purge of old references
 pub record PurgesIn (refuses : Bool) (c : Parameters) (start : Trail) (given : Result ℕ Refusal)
     (old new : SessionValue) : Type 0 where
   pub keeps : KeepsSession c start given old new
