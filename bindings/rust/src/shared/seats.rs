@@ -46,7 +46,7 @@
 //! [`Part::make_way`]: super::part::Part::make_way
 //! [`Queues`]: super::latch::Queues
 //! [`Queues::hand_over`]: super::latch::Queues::hand_over
-use super::word::{JOIN, PIN, READER, WRITER, Word};
+use super::word::{JOIN, PIN, READER, Word};
 use crate::{Error, Result};
 use std::sync::atomic::{AtomicPtr, AtomicU32, AtomicU64, Ordering};
 
@@ -92,10 +92,9 @@ impl Seat {
     #[inline]
     pub(super) fn join_alone(&self) -> bool {
         let word = Word(self.word.load(Ordering::Relaxed));
-        if !word.is_writable_at_once() {
+        let Some(next) = word.with_writer_at_once() else {
             return false;
-        }
-        let next = word.0.wrapping_add(WRITER + JOIN);
+        };
         let swapped =
             self.word
                 .compare_exchange(word.0, next, Ordering::Acquire, Ordering::Relaxed);
@@ -107,13 +106,13 @@ impl Seat {
     /// all such calls: a thread that is to wait notes so before it looks at the words.
     #[inline]
     pub(super) fn leave(&self, share: u64) -> Word {
-        Word(self.word.fetch_sub(share, Ordering::SeqCst) - share)
+        Word(self.word.fetch_sub(share, Ordering::SeqCst)).without(share)
     }
 
     /// Turns a shared latch that was added into a pin, and returns what is there then.
     pub(super) fn turn_to_pin(&self) -> Word {
         let before = self.word.fetch_add(PIN - READER, Ordering::SeqCst);
-        Word(before.wrapping_add(PIN - READER))
+        Word(before).turned_to_pin()
     }
 
     /// Makes a pin under the part's lock, while the pass is out.
