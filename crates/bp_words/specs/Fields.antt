@@ -15,7 +15,8 @@ pub record Fields : Type 0 where
 -- the word of so many shares, with these flags
 abbrev pub packed : ℕ → ℕ → ℕ → ℕ → ℕ → ℕ → ℕ → ℕ → ℕ
 packed r p w q o s c j =
-    r + 1048576 * p + 1099511627776 * w + 2199023255552 * q + 4398046511104 * o + 8796093022208 * s + 17592186044416 * c + 35184372088832 * j
+    r + 1048576 * p + 1099511627776 * w + 2199023255552 * q + 4398046511104 * o + 8796093022208 * s + 17592186044416 * c
+    + 35184372088832 * j
 
 abbrev pub word_of : Fields → ℕ
 word_of f = packed f.readers f.pins f.writers f.queued f.out f.stays f.closed f.joins

@@ -88,7 +88,8 @@ in_pins v = v.pins + v.loose
 abbrev pub ComesToRead : Step ℕ → Me ℕ View → ℕ → Me ℕ View → Type 0
 ComesToRead step before found after =
     (IsReadable (fields found) → (page : ℕ) × (after ≡ (guest 1 0 0 0 0 0 1 (Some page), before.1)))
-    × (¬ (IsReadable (fields found)) → IsPinnable (fields found) → (page : ℕ) × (after ≡ (guest 0 1 0 0 0 0 1 (Some page), before.1)))
+    × (¬ (IsReadable (fields found)) → IsPinnable (fields found)
+    → (page : ℕ) × (after ≡ (guest 0 1 0 0 0 0 1 (Some page), before.1)))
     × (¬ (IsPinnable (fields found)) → after ≡ (guest 0 0 1 0 0 0 1 None, before.1))
 
 -- a share was added to the pins: it pins the page, or says nothing

@@ -46,7 +46,8 @@ impl Model for Keeper {
 
     ghost view = { λ k. record { frame = k.seat.table_id; page = k.seat.me.0.page } };
 
-    ghost invariant = { λ k. k.seat.me ≡ (keeper 0 k.spare k.seat.me.0.page k.seat.me.0.stored, []) };
+    ghost invariant = { λ k. k.seat.me
+        ≡ (keeper 0 k.spare k.seat.me.0.page k.seat.me.0.stored, []) };
 }
 
 /// A thread that may come to a frame. There are no more than 2^18 for a frame.
@@ -90,7 +91,8 @@ impl Visitor {
         requires { self.old.frame ≡ frame.now }
         ensures visitor { self.new ≡ self.old }
         ensures reader { IfOk result (λ share. share.frame ≡ frame.now × share.page ≡ page) }
-        ensures pin { IfErr result (λ left. IfSome left (λ share. share.frame ≡ frame.now × share.page ≡ page)) }
+        ensures pin { IfErr result (λ left.
+            IfSome left (λ share. share.frame ≡ frame.now × share.page ≡ page)) }
     {
         let shared = &frame.table.shared;
         let before = Word(shared.fetch_add::<ComeToRead>(&mut self.seat, 0, READER + JOIN));

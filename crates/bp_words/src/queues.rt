@@ -42,7 +42,11 @@ impl Model for Queue {
 
     ghost Value = { QueueValue };
 
-    ghost view = { λ q. record { frame = q.seat.table_id; waiting = q.waiting; granted = q.granted } };
+    ghost view = { λ q. record {
+      frame = q.seat.table_id;
+      waiting = q.waiting;
+      granted = q.granted;
+    } };
 
     ghost invariant = { λ q. q.seat.me ≡ (queue q.waiting q.granted q.seat.me.0.page, []) };
 }
@@ -109,7 +113,12 @@ impl Queue {
     pub fn try_let_readers_in(&mut self, frame: &Frame, is_queue_empty: bool) -> bool
         requires frame { self.old.frame ≡ frame.now }
         requires fits { self.old.waiting + self.old.granted < 18446744073709551616 }
-        ensures had { IsTrue result → self.new ≡ record { frame = self.old.frame; waiting = 0; granted = self.old.waiting + self.old.granted } }
+        ensures had { IsTrue result
+            → self.new ≡ record {
+              frame = self.old.frame;
+              waiting = 0;
+              granted = self.old.waiting + self.old.granted;
+            } }
         ensures not { ¬ (IsTrue result) → self.new ≡ self.old }
     {
         let shared = &frame.table.shared;
@@ -131,9 +140,12 @@ impl Queue {
     /// Lets one that was let in go on, with its latch, its pin and its right to come.
     pub fn hand(&mut self, frame: &Frame) -> Option<(Reader, Pin, Visitor)>
         requires frame { self.old.frame ≡ frame.now }
-        ensures some { 0 < self.old.granted → IsSome result × self.new ≡ record self.old { granted = self.old.granted - 1 } }
+        ensures some { 0 < self.old.granted
+            → IsSome result × self.new ≡ record self.old { granted = self.old.granted - 1 } }
         ensures none { IsNone result → self.new ≡ self.old }
-        ensures shares { IfSome result (λ it. it.0.frame ≡ frame.now × it.1.frame ≡ frame.now × it.2.frame ≡ frame.now × it.0.page ≡ it.1.page) }
+        ensures shares { IfSome result (λ it.
+            it.0.frame ≡ frame.now × it.1.frame ≡ frame.now × it.2.frame ≡ frame.now
+            × it.0.page ≡ it.1.page) }
     {
         if self.granted == 0 {
             return None;

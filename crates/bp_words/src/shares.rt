@@ -6,7 +6,8 @@ use crate::views::{AddRead, AddWrite, Beside, Find, Flag, Leave, ToRead, ToWrite
 use crate::word::{PIN, READER, WRITER, Word};
 use std::marker::Model;
 
-/// The right to look at a page: while it is there nobody writes it, and it stays in its frame. It can be neither copied nor dropped.
+/// The right to look at a page: while it is there nobody writes it, and it stays in its frame. It can be neither copied
+/// nor dropped.
 pub struct Reader {
     pub(crate) seat: Token,
 }
@@ -40,7 +41,8 @@ impl Model for Pin {
     ghost invariant = { λ s. s.seat.me ≡ (held 0 1 0 (given s.seat.me.0.page), []) };
 }
 
-/// The right to write a page: while it is there nobody else reads or writes it, and it stays in its frame. It can be neither copied nor dropped.
+/// The right to write a page: while it is there nobody else reads or writes it, and it stays in its frame. It can be
+/// neither copied nor dropped.
 pub struct Writer {
     pub(crate) seat: Token,
 }

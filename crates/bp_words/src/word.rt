@@ -35,8 +35,10 @@ const WAITED: u64 = QUEUED | CLOSED;
 const LATCHED: u64 = READERS | WRITER;
 
 const USERS: u64 = READERS | PINS | WRITER;
-/// More guards than this of a page are too many, though as many again fit in the word: so many
-/// threads may find that at once.
+/// Who finds one of these bits gets no guard: the page has 2^19 readers or pins. A thread adds before
+/// it looks, so the fields have room for as many again. Two for each thread take that: a reader that
+/// became a pin, and another pin. So fewer than 2^18 threads never make a field go over into the next
+/// one; more at one page might, as nothing counts threads.
 const TOO_MANY: u64 = (READERS / 2 + 1) | (PINS / 2 + PIN / 2);
 
 /// What a word was before something was added to it or taken from it, or what it is.
@@ -156,7 +158,12 @@ impl Word {
     /// With the exclusive latch and a join, if it may be added at once.
     #[inline]
     pub(super) fn with_writer_at_once(self) -> Option<u64>
-        ensures had { IfSome result (λ next. IsWritable (fields self.0) × (fields self.0).joins < 32 × next ≡ word_of (record (fields self.0) { writers = 1; joins = (fields self.0).joins + 1 })) }
+        ensures had { IfSome result (λ next.
+            IsWritable (fields self.0) × (fields self.0).joins < 32
+            × next ≡ word_of (record (fields self.0) {
+              writers = 1;
+              joins = (fields self.0).joins + 1;
+            })) }
         ensures not { IsNone result → ¬ (IsWritable (fields self.0) × (fields self.0).joins < 32) }
     {
         if self.is_writable_at_once() {
@@ -180,7 +187,10 @@ impl Word {
     pub(super) fn turned_to_pin(self) -> Word
         requires reader { 0 < (fields self.0).readers }
         requires fits { (fields self.0).pins + 1 < 1048576 }
-        ensures { result.0 ≡ word_of (record (fields self.0) { readers = (fields self.0).readers - 1; pins = (fields self.0).pins + 1 }) }
+        ensures { result.0 ≡ word_of (record (fields self.0) {
+          readers = (fields self.0).readers - 1;
+          pins = (fields self.0).pins + 1;
+        }) }
     {
         Word(self.0 + (PIN - READER))
     }
@@ -202,7 +212,9 @@ impl Word {
     pub(super) fn with_latch(self, latch: u64, in_place_of: u64) -> Option<u64>
         requires latch { (latch ≡ 1) ⊎ (latch ≡ 1099511627776) }
         requires share { in_place_of ≤ self.0 }
-        ensures had { IfSome result (λ next. IsFree latch (fields self.0) × HasRoom (fields self.0) × next ≡ self.0 - in_place_of + latch) }
+        ensures had { IfSome result (λ next.
+            IsFree latch (fields self.0) × HasRoom (fields self.0)
+            × next ≡ self.0 - in_place_of + latch) }
         ensures not { IsNone result → ¬ (IsFree latch (fields self.0) × HasRoom (fields self.0)) }
     {
         if self.is_free(latch) && self.has_room() {
@@ -214,7 +226,9 @@ impl Word {
 
     /// With a thread in the queue for the latch, if that is not free or others wait.
     pub(super) fn with_queue(self, latch: u64) -> Option<u64>
-        ensures queued { IfSome result (λ next. ¬ (IsFree latch (fields self.0)) × HasRoom (fields self.0) × next ≡ word_of (record (fields self.0) { queued = 1; closed = 1 })) }
+        ensures queued { IfSome result (λ next.
+            ¬ (IsFree latch (fields self.0)) × HasRoom (fields self.0)
+            × next ≡ word_of (record (fields self.0) { queued = 1; closed = 1 })) }
         ensures not { IsNone result → HasRoom (fields self.0) → IsFree latch (fields self.0) }
     {
         if self.has_room() && !self.is_free(latch) {
@@ -227,7 +241,13 @@ impl Word {
     /// With so many readers of the queue let in, if no writer is there.
     pub(super) fn with_readers(self, readers: u64, is_queue_empty: bool) -> Option<u64>
         requires fits { (fields self.0).readers + readers < 1048576 }
-        ensures had { IfSome result (λ next. (fields self.0).writers ≡ 0 × next ≡ word_of (record (fields self.0) { readers = (fields self.0).readers + readers; queued = one_unless is_queue_empty; closed = one_unless is_queue_empty })) }
+        ensures had { IfSome result (λ next.
+            (fields self.0).writers ≡ 0
+            × next ≡ word_of (record (fields self.0) {
+              readers = (fields self.0).readers + readers;
+              queued = one_unless is_queue_empty;
+              closed = one_unless is_queue_empty;
+            })) }
         ensures not { IsNone result → (fields self.0).writers ≡ 1 }
     {
         if self.is_written() {
@@ -243,8 +263,14 @@ impl Word {
 
     /// With a writer of the queue let in if nobody has the latch, else closed.
     pub(super) fn with_writer(self, is_queue_empty: bool) -> u64
-        ensures latched { IsLatched (fields self.0) → result ≡ word_of (record (fields self.0) { queued = 1; closed = 1 }) }
-        ensures free { ¬ (IsLatched (fields self.0)) → result ≡ word_of (record (fields self.0) { writers = 1; queued = one_unless is_queue_empty; closed = one_unless is_queue_empty }) }
+        ensures latched { IsLatched (fields self.0)
+            → result ≡ word_of (record (fields self.0) { queued = 1; closed = 1 }) }
+        ensures free { ¬ (IsLatched (fields self.0))
+            → result ≡ word_of (record (fields self.0) {
+              writers = 1;
+              queued = one_unless is_queue_empty;
+              closed = one_unless is_queue_empty;
+            }) }
     {
         let opened = self.0 & !WAITED;
         if self.is_latched() {
@@ -268,7 +294,12 @@ impl Word {
     pub(super) fn with_pass(self, stays: bool) -> u64
         requires home { (fields self.0).out ≡ 0 × (fields self.0).stays ≡ 0 }
         requires fits { (fields self.0).pins + 1 < 1048576 }
-        ensures { result ≡ word_of (record (fields self.0) { pins = (fields self.0).pins + 1; out = 1; stays = one_if stays; joins = 0 }) }
+        ensures { result ≡ word_of (record (fields self.0) {
+          pins = (fields self.0).pins + 1;
+          out = 1;
+          stays = one_if stays;
+          joins = 0;
+        }) }
     {
         let begun = (self.0 & !JOINED) + OUT + PIN;
         if stays { begun + STAYS } else { begun }
@@ -277,7 +308,9 @@ impl Word {
     /// Without the pass, if nobody uses the page.
     #[inline]
     pub(super) fn without_pass(self) -> Option<u64>
-        ensures had { IfSome result (λ next. IsUnused (fields self.0) × next ≡ word_of (record (fields self.0) { out = 0; stays = 0; joins = 0 })) }
+        ensures had { IfSome result (λ next.
+            IsUnused (fields self.0)
+            × next ≡ word_of (record (fields self.0) { out = 0; stays = 0; joins = 0 })) }
         ensures not { IsNone result → ¬ (IsUnused (fields self.0)) }
     {
         if self.0 & (OUT | USERS) == OUT {

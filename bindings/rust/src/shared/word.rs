@@ -33,8 +33,10 @@ const WAITED: u64 = QUEUED | CLOSED;
 const LATCHED: u64 = READERS | WRITER;
 
 const USERS: u64 = READERS | PINS | WRITER;
-/// More guards than this of a page are too many, though as many again fit in the word: so many
-/// threads may find that at once.
+/// Who finds one of these bits gets no guard: the page has 2^19 readers or pins. A thread adds before
+/// it looks, so the fields have room for as many again. Two for each thread take that: a reader that
+/// became a pin, and another pin. So fewer than 2^18 threads never make a field go over into the next
+/// one; more at one page might, as nothing counts threads.
 const TOO_MANY: u64 = (READERS / 2 + 1) | (PINS / 2 + PIN / 2);
 
 /// What a word was before something was added to it or taken from it, or what it is.
@@ -136,12 +138,15 @@ impl Word {
     /// Without a share that is in it.
     #[inline]
     pub(super) fn without(self, share: u64) -> Word {
+        debug_assert!(share <= self.0);
         Word(self.0 - share)
     }
 
     /// With a pin in place of a shared latch.
     #[inline]
     pub(super) fn turned_to_pin(self) -> Word {
+        debug_assert!(0 < (self.0 % 1048576));
+        debug_assert!((self.0 / 1048576 % 1048576) + 1 < 1048576);
         Word(self.0 + (PIN - READER))
     }
 
@@ -158,6 +163,8 @@ impl Word {
     /// With a latch in place of a share, if the latch is free and nobody is to get it.
     #[inline]
     pub(super) fn with_latch(self, latch: u64, in_place_of: u64) -> Option<u64> {
+        debug_assert!((latch == 1) || (latch == 1099511627776));
+        debug_assert!(in_place_of <= self.0);
         if self.is_free(latch) && self.has_room() {
             Some(self.0 - in_place_of + latch)
         } else {
@@ -176,6 +183,7 @@ impl Word {
 
     /// With so many readers of the queue let in, if no writer is there.
     pub(super) fn with_readers(self, readers: u64, is_queue_empty: bool) -> Option<u64> {
+        debug_assert!((self.0 % 1048576) + readers < 1048576);
         if self.is_written() {
             return None;
         }
@@ -207,6 +215,9 @@ impl Word {
     /// With the pass out, and a pin.
     #[inline]
     pub(super) fn with_pass(self, stays: bool) -> u64 {
+        debug_assert!((self.0 / 4398046511104 % 2) == 0);
+        debug_assert!((self.0 / 8796093022208 % 2) == 0);
+        debug_assert!((self.0 / 1048576 % 1048576) + 1 < 1048576);
         let begun = (self.0 & !JOINED) + OUT + PIN;
         if stays { begun + STAYS } else { begun }
     }
