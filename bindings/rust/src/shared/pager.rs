@@ -437,8 +437,8 @@ impl<F: PageIo> SharedPager<F> {
         asked: Asked,
     ) -> Result<PagePin<'a>, PagerError> {
         let mut state = part.with_image(part.lock())?;
-        if let Some(pin) = part.join_under(&state, own) {
-            return Ok(pin);
+        if let Some(seat) = part.seats.out(own) {
+            return Ok(part.join_under(state, seat)?);
         }
         if part.seats.of(own).is_none() {
             part.make_way(&mut state, PASSES);

@@ -148,17 +148,21 @@ impl Seat {
 
     /// Takes a latch beside a pin, if that is free and nobody waits for it. Else it notes that a
     /// thread waits, and returns what was there. The queues are locked.
-    pub(super) fn latch_or_queue(&self, latch: u64) -> Option<Word> {
+    ///
+    /// # Errors
+    /// [`Error::TooManyGuards`]: then nothing is changed.
+    pub(super) fn latch_or_queue(&self, latch: u64) -> Result<Option<Word>> {
         loop {
             if self.try_latch(latch, 0) {
-                return None;
+                return Ok(None);
             }
             // Only where the latch is not free now: so who lets it go finds this.
             // Acquire: what it tells, the queues' mutex tells too.
             // step: Visitor::try_queue, Visitor::try_wait
             match self.change(Ordering::Acquire, |word| Word(word).with_queue(latch)) {
-                Ok(before) => return Some(before),
-                Err(word) => assert!(word.has_room(), "too many latches or pins of one page"),
+                Ok(before) => return Ok(Some(before)),
+                Err(word) if !word.has_room() => return Err(Error::TooManyGuards),
+                Err(_) => {}
             }
         }
     }
