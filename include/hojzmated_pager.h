@@ -73,8 +73,8 @@ enum hz_pager_refusal {
     HZ_DEADLOCK = 72,         /* the call would wait for a latch that this thread has */
     HZ_NOT_EXCLUSIVE = 73,    /* the page is not under its exclusive latch */
     HZ_IN_CALLBACK = 74,      /* a callback of this pager may not make the call */
-    HZ_PANICKED = 75,         /* the library found a fault of its own, or a page has 500,000 pins or latches. Standard
-                                 error has a line of it */
+    HZ_PANICKED = 75,         /* the library found a fault of its own, of which standard error has a line; or a page
+                                 has 500,000 pins or latches */
 };
 
 /* How a page is fixed: one of the first three, or one of them with HZ_TRY, as HZ_SHARED | HZ_TRY. */

@@ -12,8 +12,8 @@ use std::result;
 /// [`PagerError`](crate::PagerError), which is a refusal or a fault of these.
 ///
 /// Each has the number of `hojzmated.h` and its text, which [`Display`](fmt::Display) shows, except
-/// for [`Lent`](Error::Lent) and [`VersionMismatch`](Error::VersionMismatch), which are this
-/// crate's own.
+/// for [`Lent`](Error::Lent), [`VersionMismatch`](Error::VersionMismatch) and
+/// [`TooManyGuards`](Error::TooManyGuards), which are this crate's own.
 #[derive(Clone, Copy, Debug, PartialEq, Eq, Hash)]
 #[non_exhaustive]
 pub enum Error {
@@ -77,6 +77,9 @@ pub enum Error {
         /// The version of the library, as [`version`](crate::version) gives it.
         library: u32,
     },
+    /// 62, a number of this crate alone: the page of a [`SharedPager`](crate::SharedPager) has 524,288
+    /// pins or shared latches, and gets no other guard before some of these are dropped.
+    TooManyGuards,
     /// A number that a newer library has.
     Other(u16),
 }
@@ -108,8 +111,9 @@ static NUMBERED: [Error; 19] = [
 ];
 
 impl Error {
-    /// Returns the number of `hojzmated.h`. Those of [`Lent`](Error::Lent) and
-    /// [`VersionMismatch`](Error::VersionMismatch) are beyond those.
+    /// Returns the number of `hojzmated.h`. Those of [`Lent`](Error::Lent),
+    /// [`VersionMismatch`](Error::VersionMismatch) and [`TooManyGuards`](Error::TooManyGuards) are
+    /// beyond those.
     pub const fn number(self) -> u16 {
         match self {
             Error::BadGeometry => 1,
@@ -133,6 +137,7 @@ impl Error {
             Error::Null => 52,
             Error::Lent => 60,
             Error::VersionMismatch { .. } => 61,
+            Error::TooManyGuards => 62,
             Error::Other(number) => number,
         }
     }
@@ -178,6 +183,7 @@ impl fmt::Display for Error {
     fn fmt(&self, f: &mut fmt::Formatter<'_>) -> fmt::Result {
         match *self {
             Error::Lent => return f.write_str("bytes of the page are lent"),
+            Error::TooManyGuards => return f.write_str("the page has too many guards"),
             Error::VersionMismatch { library } => {
                 let (major, minor, patch) = (library / 10_000, library / 100 % 100, library % 100);
                 return write!(
@@ -258,6 +264,7 @@ mod tests {
         let last = NUMBERED.map(Error::number).into_iter().max();
         assert!(last < Some(Error::Lent.number()));
         assert_eq!(Error::VersionMismatch { library: 0 }.number(), 61);
+        assert_eq!(Error::TooManyGuards.number(), 62);
         assert_eq!(Error::check(0), Ok(()));
     }
 
@@ -287,6 +294,7 @@ mod tests {
                 "the page is not of the file, or the bytes are not within the page",
             ),
             (Error::Lent, "bytes of the page are lent"),
+            (Error::TooManyGuards, "the page has too many guards"),
             (Error::Other(15), "unknown number (15)"),
         ] {
             assert_eq!(error.to_string(), text);

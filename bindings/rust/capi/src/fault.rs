@@ -100,9 +100,13 @@ impl From<Error> for hz_pager_fault {
             Error::NeedLog { lsn } => lsn,
             _ => 0,
         };
+        let number = match error {
+            Error::TooManyGuards => HZ_PANICKED,
+            other => other.number(),
+        };
         hz_pager_fault {
             lsn,
-            ..hz_pager_fault::of(error.number())
+            ..hz_pager_fault::of(number)
         }
     }
 }
@@ -218,5 +222,12 @@ mod tests {
         let fault = hz_pager_fault::from(Error::VersionMismatch { library: 20_304 });
         let text = "the library was built over a core of another version, and makes no pager";
         assert_eq!((fault.number, fault.to_string().as_str()), (61, text));
+    }
+
+    #[test]
+    fn number_of_too_many_guards() {
+        let fault = hz_pager_fault::from(Error::TooManyGuards);
+        let text = "the library found a fault of its own, or a page has 500,000 pins or latches";
+        assert_eq!((fault.number, fault.to_string().as_str()), (75, text));
     }
 }

@@ -124,8 +124,10 @@ impl Left<'_> {
 /// Panics where a latch was not had.
 #[inline]
 fn had(latched: Result<()>) {
-    if latched.is_err() {
-        panic!("a function of the engine waits for a latch longer than for a pin");
+    match latched {
+        Ok(()) => {}
+        Err(Error::TooManyGuards) => panic!("the page has too many guards"),
+        Err(_) => panic!("a function of the engine waits for a latch longer than for a pin"),
     }
 }
 
@@ -146,7 +148,8 @@ impl<'a> PagePin<'a> {
     /// latch, while another waits for the exclusive one.
     ///
     /// # Panics
-    /// In a function of the engine that the pager called, after the time of a pin wait.
+    /// In a function of the engine that the pager called, after the time of a pin wait. Where the page has
+    /// 524,288 pins or shared latches.
     #[inline]
     pub fn read(&self) -> PageRef<'_> {
         let Share { part, seat } = self.0;

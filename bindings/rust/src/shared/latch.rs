@@ -116,10 +116,13 @@ impl Queues {
     }
 
     /// Waits for the latch of a page, which the caller has pinned. The caller's pin stays.
-    pub(super) fn wait(&self, seat: &Seat, number: usize, latch: u64) {
+    ///
+    /// # Errors
+    /// Those of [`Seat::latch_or_queue`].
+    pub(super) fn wait(&self, seat: &Seat, number: usize, latch: u64) -> crate::Result<()> {
         let mut state = self.lock();
-        let Some(before) = seat.latch_or_queue(latch) else {
-            return;
+        let Some(before) = seat.latch_or_queue(latch)? else {
+            return Ok(());
         };
         state.waits += 1;
         if latch == WRITER {
@@ -127,6 +130,7 @@ impl Queues {
         } else {
             self.wait_to_read(state, number, before.is_written());
         }
+        Ok(())
     }
 
     fn wait_to_write(&self, mut state: MutexGuard<'_, State>, seat: &Seat, number: usize) {

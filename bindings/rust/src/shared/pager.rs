@@ -70,7 +70,7 @@ use std::time::{Duration, Instant};
 ///
 /// The pages are divided into *parts*, which are proved pools, each with a lock of its own:
 /// [`SharedConfig::parts`] says what more of them change. What this pager adds to them is tested
-/// and not proved.
+/// and not proved, but for each change of the words that count its pins and latches.
 ///
 /// # What waits for what
 /// No lock is held while the device works: reads and write-outs of different pages overlap. A
@@ -437,8 +437,8 @@ impl<F: PageIo> SharedPager<F> {
         asked: Asked,
     ) -> Result<PagePin<'a>, PagerError> {
         let mut state = part.with_image(part.lock())?;
-        if let Some(pin) = part.join_under(&state, own) {
-            return Ok(pin);
+        if let Some(seat) = part.seats.out(own) {
+            return Ok(part.join_under(state, seat)?);
         }
         if part.seats.of(own).is_none() {
             part.make_way(&mut state, PASSES);

@@ -315,7 +315,8 @@ impl Part {
     /// Waits for a latch, in place of another share.
     ///
     /// # Errors
-    /// [`Error::Busy`] in a function of the engine, where it waits for the pin wait at most.
+    /// [`Error::Busy`] in a function of the engine, where it waits for the pin wait at most;
+    /// [`Error::TooManyGuards`].
     #[inline]
     pub(super) fn take_latch(&self, seat: &Seat, latch: u64, in_place_of: u64) -> Result<()> {
         if seat.try_latch(latch, in_place_of) {
@@ -341,7 +342,7 @@ impl Part {
             return Ok(());
         }
         let number = self.seats.number_of(seat);
-        self.locked.queues.wait(seat, number, latch);
+        self.locked.queues.wait(seat, number, latch)?;
         if in_place_of > 0 {
             seat.leave(in_place_of);
         }

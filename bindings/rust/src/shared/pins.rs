@@ -214,7 +214,7 @@ impl Part {
         if seat.word().is_out() {
             // All pins of a page share one pass.
             let _ = state.pool.unfix_by(&pass);
-            return Ok(self.add_pin(seat, Seat::add_pin));
+            return self.add_pin(state, seat, Seat::add_pin);
         }
         let (bytes, serial) = (bytes.cast(), pass.serial());
         state.places.note(bytes);
@@ -236,18 +236,21 @@ impl Part {
         Ok(PagePin::new(unsafe { Share::new(self, seat) }))
     }
 
-    /// Pins a page under the lock if its pass is out, without asking the pool.
-    pub(super) fn join_under(&self, state: &State, page: u64) -> Option<PagePin<'_>> {
-        let seat = self.seats.out(page)?;
+    /// Pins a page whose pass is out, without asking the pool. The lock is opened.
+    pub(super) fn join_under<'a>(
+        &'a self,
+        state: Locked<'_>,
+        seat: &'a Seat,
+    ) -> Result<PagePin<'a>> {
         seat.touch(state.now);
-        Some(self.add_pin(seat, |seat| seat.join(PIN)))
+        self.add_pin(state, seat, |seat| seat.join(PIN))
     }
 
     /// Pins a page that is in a frame, for the pager itself. The lock is opened.
     pub(super) fn pin_under<'a>(&'a self, mut state: Locked<'a>, page: u64) -> Result<PagePin<'a>> {
         let seat = self.seats.of(page).map(|number| self.seats.seat(number));
         if let Some(seat) = seat.filter(|it| it.word().is_out()) {
-            return Ok(self.add_pin(seat, Seat::add_pin));
+            return self.add_pin(state, seat, Seat::add_pin);
         }
         match self.ask(&mut state, page)? {
             Fix::Here(pass) => self.pinned(state, pass, Came::Here),
@@ -262,17 +265,20 @@ impl Part {
         self.seats.seat(number).word().is_written()
     }
 
-    /// Makes a pin under the lock, while the pass is out.
-    fn add_pin<'a>(&'a self, seat: &'a Seat, add: impl FnOnce(&Seat) -> Word) -> PagePin<'a> {
+    /// Makes a pin under the lock, while the pass is out. The lock is opened.
+    fn add_pin<'a>(
+        &'a self,
+        state: Locked<'_>,
+        seat: &'a Seat,
+        add: impl FnOnce(&Seat) -> Word,
+    ) -> Result<PagePin<'a>> {
         let before = add(seat);
+        drop(state);
         // SAFETY: the pass is out, and the pin in the word.
         let pin = PagePin::new(unsafe { Share::new(self, seat) });
-        if !before.is_pinnable() {
-            std::mem::forget(pin);
-            seat.leave(PIN);
-            panic!("too many pins of one page");
-        }
-        pin
+        // One that has no room goes back.
+        let had = before.is_pinnable().then_some(pin);
+        had.ok_or(Error::TooManyGuards)
     }
 
     /// Gives a pass back, if it is out and nobody uses its page.

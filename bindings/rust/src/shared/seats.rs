@@ -46,7 +46,7 @@
 //! [`Part::make_way`]: super::part::Part::make_way
 //! [`Queues`]: super::latch::Queues
 //! [`Queues::hand_over`]: super::latch::Queues::hand_over
-use super::word::{JOIN, PIN, READER, WRITER, Word};
+use super::word::{JOIN, PIN, READER, Word};
 use crate::{Error, Result};
 use std::sync::atomic::{AtomicPtr, AtomicU32, AtomicU64, Ordering};
 
@@ -84,6 +84,8 @@ impl Seat {
     /// are those that were written before, and stay.
     #[inline]
     pub(super) fn join(&self, share: u64) -> Word {
+        // Acquire: who comes has nothing to tell.
+        // step: Visitor::join_read, Visitor::join_pin
         Word(self.word.fetch_add(share + JOIN, Ordering::Acquire))
     }
 
@@ -92,10 +94,12 @@ impl Seat {
     #[inline]
     pub(super) fn join_alone(&self) -> bool {
         let word = Word(self.word.load(Ordering::Relaxed));
-        if !word.is_writable_at_once() {
+        let Some(next) = word.with_writer_at_once() else {
             return false;
-        }
-        let next = word.0.wrapping_add(WRITER + JOIN);
+        };
+        // Relaxed: what was loaded is a guess, and where the swap fails nothing is looked at.
+        // Acquire: who comes has nothing to tell.
+        // step: Visitor::join_write
         let swapped =
             self.word
                 .compare_exchange(word.0, next, Ordering::Acquire, Ordering::Relaxed);
@@ -107,23 +111,29 @@ impl Seat {
     /// all such calls: a thread that is to wait notes so before it looks at the words.
     #[inline]
     pub(super) fn leave(&self, share: u64) -> Word {
-        Word(self.word.fetch_sub(share, Ordering::SeqCst) - share)
+        // step: Reader::leave, Pin::leave, Writer::leave
+        Word(self.word.fetch_sub(share, Ordering::SeqCst)).without(share)
     }
 
     /// Turns a shared latch that was added into a pin, and returns what is there then.
     pub(super) fn turn_to_pin(&self) -> Word {
+        // step: Visitor::join_read
         let before = self.word.fetch_add(PIN - READER, Ordering::SeqCst);
-        Word(before.wrapping_add(PIN - READER))
+        Word(before).turned_to_pin()
     }
 
     /// Makes a pin under the part's lock, while the pass is out.
     pub(super) fn add_pin(&self) -> Word {
+        // Acquire: who comes has nothing to tell.
+        // step: Visitor::add_pin
         Word(self.word.fetch_add(PIN, Ordering::Acquire))
     }
 
     /// Takes a latch in place of another share, if that is free and nobody is to get it.
     #[inline]
     pub(super) fn try_latch(&self, latch: u64, in_place_of: u64) -> bool {
+        // Acquire: where it takes the place of a pin, this thread still has a share to give back.
+        // step: Pin::try_read, Pin::try_write, Pin::try_read_beside, Pin::try_write_beside
         let latched = |word| Word(word).with_latch(latch, in_place_of);
         self.change(Ordering::Acquire, latched).is_ok()
     }
@@ -138,21 +148,29 @@ impl Seat {
 
     /// Takes a latch beside a pin, if that is free and nobody waits for it. Else it notes that a
     /// thread waits, and returns what was there. The queues are locked.
-    pub(super) fn latch_or_queue(&self, latch: u64) -> Option<Word> {
+    ///
+    /// # Errors
+    /// [`Error::TooManyGuards`]: then nothing is changed.
+    pub(super) fn latch_or_queue(&self, latch: u64) -> Result<Option<Word>> {
         loop {
             if self.try_latch(latch, 0) {
-                return None;
+                return Ok(None);
             }
             // Only where the latch is not free now: so who lets it go finds this.
+            // Acquire: what it tells, the queues' mutex tells too.
+            // step: Visitor::try_queue, Visitor::try_wait
             match self.change(Ordering::Acquire, |word| Word(word).with_queue(latch)) {
-                Ok(before) => return Some(before),
-                Err(word) => assert!(word.has_room(), "too many latches or pins of one page"),
+                Ok(before) => return Ok(Some(before)),
+                Err(word) if !word.has_room() => return Err(Error::TooManyGuards),
+                Err(_) => {}
             }
         }
     }
 
     /// Adds the latches of readers that waited, if no writer is there. The queues are locked.
     pub(super) fn let_readers_in(&self, readers: u64, is_queue_empty: bool) -> bool {
+        // AcqRel: this sees what was written under the latch, and those let in see it by the mutex.
+        // step: Queue::try_let_readers_in
         let let_in = |word| Word(word).with_readers(readers, is_queue_empty);
         self.change(Ordering::AcqRel, let_in).is_ok()
     }
@@ -160,6 +178,8 @@ impl Seat {
     /// Adds the latch of a writer that waited, if nobody has one. Else it notes that threads wait. The
     /// queues are locked.
     pub(super) fn let_writer_in(&self, is_queue_empty: bool) -> bool {
+        // AcqRel: as for readers.
+        // step: Pin::try_let_writer_in
         let let_in = |word| Some(Word(word).with_writer(is_queue_empty));
         let before = self.change(Ordering::AcqRel, let_in);
         before.is_ok_and(|it| !it.is_latched())
@@ -167,12 +187,15 @@ impl Seat {
 
     /// Lets whoever comes take the latch: a writer that waits is awake. The queues are locked.
     pub(super) fn open(&self) {
+        // Relaxed: who takes the latch then sees by its own step what was written.
+        // step: Visitor::try_open
         let _ = self.change(Ordering::Relaxed, |word| Some(Word(word).opened()));
     }
 
     /// Changes the word, if it is to be changed, and returns what was there.
     #[inline]
     fn change(&self, order: Ordering, change: impl Fn(u64) -> Option<u64>) -> Result<Word, Word> {
+        // Relaxed: where nothing changes nothing of the page is looked at.
         let changed = self.word.fetch_update(order, Ordering::Relaxed, change);
         changed.map(Word).map_err(Word)
     }
@@ -210,21 +233,28 @@ impl Seat {
     /// took the seat for that of another page may be in the word for a moment.
     #[inline]
     pub(super) fn begin(&self, page: u64, pinned: &Pinned, now: u64, stays: bool) {
+        // Relaxed: the step below makes them seen.
+        // step: Keeper::try_begin
         self.page.store(page, Ordering::Relaxed);
         self.bytes.store(pinned.bytes.cast_mut(), Ordering::Relaxed);
         self.serial.store(pinned.serial, Ordering::Relaxed);
         self.touched.store(now, Ordering::Relaxed);
-        // Who finds that it is out sees all this.
+        // Release: who finds that it is out sees all this.
+        // step: Keeper::try_begin
         let _ = self.change(Ordering::Release, |word| Some(Word(word).with_pass(stays)));
     }
 
     /// Has the pass stay out when nobody uses the page, under the part's lock.
     pub(super) fn stay(&self) {
+        // Relaxed: it tells nothing of the page.
+        // step: Keeper::try_stay
         let _ = self.change(Ordering::Relaxed, |word| Some(Word(word).staying()));
     }
 
     /// Takes the joins that were not counted so far.
     pub(super) fn take_joins(&self) -> u64 {
+        // Relaxed: it tells nothing of the page.
+        // step: Keeper::try_take_joins
         let taken = self.change(Ordering::Relaxed, |word| Some(Word(word).without_joins()));
         taken.map_or(0, Word::joins)
     }
@@ -234,6 +264,7 @@ impl Seat {
     #[inline]
     pub(super) fn end(&self) -> Option<u64> {
         // This sees all use of the page.
+        // step: Keeper::try_end
         let ended = self.change(Ordering::SeqCst, |word| Word(word).without_pass());
         ended.ok().map(Word::joins)
     }

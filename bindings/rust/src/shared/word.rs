@@ -23,13 +23,20 @@ const JOINS: u64 = 32;
 const DUE: u64 = !(JOINS * JOIN - 1);
 
 const READERS: u64 = PIN - READER;
+
 const PINS: u64 = WRITER - PIN;
+
 const JOINED: u64 = !(JOIN - 1);
+
 const WAITED: u64 = QUEUED | CLOSED;
+
 const LATCHED: u64 = READERS | WRITER;
+
 const USERS: u64 = READERS | PINS | WRITER;
-/// More guards than this of a page are too many, though as many again fit in the word: so many
-/// threads may find that at once.
+/// Who finds one of these bits gets no guard: the page has 2^19 readers or pins. A thread adds before
+/// it looks, so the fields have room for as many again. Two for each thread take that: a reader that
+/// became a pin, and another pin. So fewer than 2^18 threads never make a field go over into the next
+/// one; more at one page might, as nothing counts threads.
 const TOO_MANY: u64 = (READERS / 2 + 1) | (PINS / 2 + PIN / 2);
 
 /// What a word was before something was added to it or taken from it, or what it is.
@@ -118,33 +125,86 @@ impl Word {
         self.0 / JOIN
     }
 
+    /// With the exclusive latch and a join, if it may be added at once.
+    #[inline]
+    pub(super) fn with_writer_at_once(self) -> Option<u64> {
+        if self.is_writable_at_once() {
+            Some(self.0 + (WRITER + JOIN))
+        } else {
+            None
+        }
+    }
+
+    /// Without a share that is in it.
+    #[inline]
+    pub(super) fn without(self, share: u64) -> Word {
+        debug_assert!(share <= self.0);
+        Word(self.0 - share)
+    }
+
+    /// With a pin in place of a shared latch.
+    #[inline]
+    pub(super) fn turned_to_pin(self) -> Word {
+        debug_assert!(0 < (self.0 % 1048576));
+        debug_assert!((self.0 / 1048576 % 1048576) + 1 < 1048576);
+        Word(self.0 + (PIN - READER))
+    }
+
+    /// Whether a latch is free, and nobody is to get it.
+    #[inline]
+    fn is_free(self, latch: u64) -> bool {
+        if latch == READER {
+            self.0 & (WRITER | CLOSED) == 0
+        } else {
+            self.0 & (LATCHED | CLOSED) == 0
+        }
+    }
+
     /// With a latch in place of a share, if the latch is free and nobody is to get it.
     #[inline]
     pub(super) fn with_latch(self, latch: u64, in_place_of: u64) -> Option<u64> {
-        let in_the_way = if latch == READER { WRITER } else { LATCHED };
-        let is_free = self.0 & (in_the_way | CLOSED) == 0 && self.has_room();
-        is_free.then(|| self.0 - in_place_of + latch)
+        debug_assert!((latch == 1) || (latch == 1099511627776));
+        debug_assert!(in_place_of <= self.0);
+        if self.is_free(latch) && self.has_room() {
+            Some(self.0 - in_place_of + latch)
+        } else {
+            None
+        }
     }
 
     /// With a thread in the queue for the latch, if that is not free or others wait.
     pub(super) fn with_queue(self, latch: u64) -> Option<u64> {
-        let is_free = self.with_latch(latch, 0).is_some();
-        (self.has_room() && !is_free).then_some(self.0 | WAITED)
+        if self.has_room() && !self.is_free(latch) {
+            Some((self.0 & !WAITED) + WAITED)
+        } else {
+            None
+        }
     }
 
     /// With so many readers of the queue let in, if no writer is there.
     pub(super) fn with_readers(self, readers: u64, is_queue_empty: bool) -> Option<u64> {
-        let waited = if is_queue_empty { 0 } else { WAITED };
-        (!self.is_written()).then_some((self.0 & !WAITED) + waited + readers * READER)
+        debug_assert!((self.0 % 1048576) + readers < 1048576);
+        if self.is_written() {
+            return None;
+        }
+        let opened = (self.0 & !WAITED) + readers * READER;
+        Some(if is_queue_empty {
+            opened
+        } else {
+            opened + WAITED
+        })
     }
 
     /// With a writer of the queue let in if nobody has the latch, else closed.
     pub(super) fn with_writer(self, is_queue_empty: bool) -> u64 {
+        let opened = self.0 & !WAITED;
         if self.is_latched() {
-            return self.0 | WAITED;
+            opened + WAITED
+        } else if is_queue_empty {
+            opened + WRITER
+        } else {
+            opened + WAITED + WRITER
         }
-        let waited = if is_queue_empty { 0 } else { WAITED };
-        (self.0 & !WAITED) + waited + WRITER
     }
 
     /// Open for who comes.
@@ -155,15 +215,21 @@ impl Word {
     /// With the pass out, and a pin.
     #[inline]
     pub(super) fn with_pass(self, stays: bool) -> u64 {
-        let flags = if stays { OUT | STAYS } else { OUT };
-        (self.0 & !JOINED) + flags + PIN
+        debug_assert!((self.0 / 4398046511104 % 2) == 0);
+        debug_assert!((self.0 / 8796093022208 % 2) == 0);
+        debug_assert!((self.0 / 1048576 % 1048576) + 1 < 1048576);
+        let begun = (self.0 & !JOINED) + OUT + PIN;
+        if stays { begun + STAYS } else { begun }
     }
 
     /// Without the pass, if nobody uses the page.
     #[inline]
     pub(super) fn without_pass(self) -> Option<u64> {
-        let is_unused = self.0 & (OUT | USERS) == OUT;
-        is_unused.then_some(self.0 & !(OUT | STAYS | JOINED))
+        if self.0 & (OUT | USERS) == OUT {
+            Some(self.0 & !(OUT | STAYS | JOINED))
+        } else {
+            None
+        }
     }
 
     pub(super) fn without_joins(self) -> u64 {
@@ -171,6 +237,6 @@ impl Word {
     }
 
     pub(super) fn staying(self) -> u64 {
-        self.0 | STAYS
+        (self.0 & !STAYS) + STAYS
     }
 }

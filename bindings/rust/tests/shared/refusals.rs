@@ -2,6 +2,7 @@
 use crate::device::{Asked, Device, Fate, PAGES, SIZE, config, pager, put, with_an_unsaved_page};
 use hojzmated::{Error, PagerError, SharedConfig, SharedPager};
 use std::error::Error as _;
+use std::panic::{AssertUnwindSafe, catch_unwind};
 use std::time::{Duration, Instant};
 
 type Call = fn(&SharedPager<Device>) -> Result<(), PagerError>;
@@ -44,6 +45,31 @@ fn bytes_that_the_page_has_not() {
     drop(page);
     pager.flush(1).unwrap();
     assert_eq!(pager.io().asked().last(), Some(&Asked::Write(1, 7, 1)));
+}
+
+// By whichever call. Once a guard is dropped another one is had, and once all are the page is as any.
+#[test]
+fn too_many_guards_of_a_page() {
+    let pager = with_an_unsaved_page(1);
+    let mut pins: Vec<_> = (0..1 << 19).map(|_| pager.pin(1).unwrap()).collect();
+    for _ in 0..3 {
+        let told = [
+            refusal(pager.pin(1)),
+            refusal(pager.try_pin(1)),
+            refusal(pager.read(1)),
+            refusal(pager.try_read(1)),
+            refusal(pager.new_page(1)),
+        ];
+        assert_eq!(told, [Some(Error::TooManyGuards); 5]);
+    }
+    assert!(pins[0].try_read().is_none() && pins[0].try_write().is_none());
+    drop(pins.pop());
+    // There is room for a pin, and beside it none for a latch.
+    let last = pager.pin(1).unwrap();
+    assert!(catch_unwind(AssertUnwindSafe(|| last.read().len())).is_err());
+    drop((last, pins));
+    assert_eq!(pager.read(1).unwrap()[0], 9);
+    assert_eq!(pager.stats().pinned, 0);
 }
 
 fn told_of(config: &SharedConfig) -> Result<(), Error> {

@@ -1,0 +1,6 @@
+use Rattle.std.proofs.Common.{rules, ap}
+use Rattle.bp_words.proofs.Keeping.{admit_split}
+use Rattle.bp_words.proofs.frames.Keeper.admit.Goals as goal
+
+pub split_seat-seat-requires : goal.split_seat-seat-requires
+split_seat-seat-requires c = (search rules, search rules, admit_split _ _ _ _ _ _ (ap (λ me. me.0) c.self.invariant) (search rules))

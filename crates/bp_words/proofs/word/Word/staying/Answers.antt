@@ -1,0 +1,8 @@
+use Rattle.std.proofs.Common.{rules, arith}
+use Rattle.bp_words.proofs.Left.{not_stays_mask}
+use Rattle.bp_words.proofs.word.Word.staying.Goals as goal
+
+pub returns : goal.returns
+returns c =
+    let e0 = not_stays_mask c.args.self.0 (search rules) in
+    omega arith
