@@ -52,9 +52,10 @@ impl<N: PartNames + PartCount, K: ListKeeper> PartedPool<N, K> {
     ghost use Rattle.bp_core.specs.Work.{MadeBlank};
     ghost use Rattle.bp_shared.specs.Keeping.{Made};
     ghost use Rattle.bp_shared.specs.Sessions.{DoesWorkSaid, PageReadSaid};
+    ghost use Rattle.bp_shared.specs.Telling.{Sees};
     ghost use Rattle.bp_shared.specs.Writing.{WithLsnSeen};
     ghost use Rattle.bp_ports.specs.Stripes.{ReadsStriped, WritesStriped, turned};
-    ghost use Rattle.bp_parts.specs.Parts.{AreNumbered, InPart, OfPart, UnfixedIn, part_of, page_in_part};
+    ghost use Rattle.bp_parts.specs.Parts.{AreNumbered, InEachPart, InPart, OfPart, UnfixedIn, part_of, page_in_part};
     ghost use Rattle.bp_shared.specs.Calls.{DiscardsIn, FixesIn, FlushesIn, LooksIn, PageReadsIn, PurgesIn, ReadsIn, TicksIn};
 
     /// Takes the parts, in order, which are 1 to 64.
@@ -415,10 +416,15 @@ impl<N: PartNames + PartCount, K: ListKeeper> PartedPool<N, K> {
             .write_from(rt, mine, &pass.pass, offset, bytes, lsn)
     }
 
-    /// Drains the rings of all parts, as `SharedPool::settle` does of one.
-    pub fn settle<R: Wait>(&self, rt: &R) {
-        for part in &self.parts {
-            part.settle(rt);
+    /// Drains the rings of all parts, part after part, as `SharedPool::settle` does of one. Then the client's ring in
+    /// each part has 32 free places.
+    pub fn settle<R: Wait>(&self, rt: &R, session: &mut PartedSession<N, K>)
+        ensures client { session.new.client ≡ session.old.client }
+        ensures sees { InEachPart session.old session.new (Sees N.parameters N.past) }
+    {
+        for part in 0..self.parts.len() {
+            let mine = &mut session.sessions[part];
+            self.pool_of(mine).settle(rt, mine);
         }
     }
 }

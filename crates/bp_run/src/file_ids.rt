@@ -28,6 +28,15 @@ impl FileId {
         }
     }
 
+    /// Returns the identity of what has this path for its name, which may be a link, or None where its metadata can't be
+    /// read.
+    pub(crate) fn named<R: Files>(rt: &R, path: &str) -> Option<FileId> {
+        match fs::symlink_metadata(rt, path) {
+            Ok(metadata) => Some(FileId::with(&metadata)),
+            Err(_) => None,
+        }
+    }
+
     /// Returns the identity of the file at a path, following links, or None where its metadata can't be read.
     pub(crate) fn at<R: Files>(rt: &R, path: &str) -> Option<FileId> {
         match fs::metadata(rt, path) {

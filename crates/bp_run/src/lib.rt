@@ -12,6 +12,7 @@ mod file_ids;
 mod free;
 mod meter;
 mod migration;
+mod new_file;
 mod noted;
 mod open_pages;
 mod opening;

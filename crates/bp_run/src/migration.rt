@@ -7,16 +7,27 @@ ghost use Rattle.bp_run.specs.Stops.{StopsMigration};
 
 use crate::file_ids::FileId;
 use crate::meter::{Meter, clear_line};
+use crate::new_file::{NewFileReason, is_no_regular_file, make_anew};
 use crate::noted::Noted;
+use crate::opening::Ports;
 use crate::page_files::PageFileReason;
 use bp_cli::{Ending, Line, MigrationWords, Reason, Stop, SystemFault};
 use bp_page::{Format, Geometry, Refusal};
 use bp_ports::{MigrateFault, Progress, Unwatched, geometry_of_file, migrate_watched};
 use std::alloc::Global;
-use std::fs::{File, OpenFile};
+use std::fs::OpenFile;
 use std::io::{BufReader, BufWriter, Read, Write};
 use std::rt::Files;
 use std::{fs, io};
+
+/// The old page file, opened to be read.
+#[derive(Drop)]
+struct Old<F: Drop> {
+    file: F,
+    /// That of its length.
+    geometry: Geometry,
+    id: FileId,
+}
 
 fn ending_of(fault: MigrateFault) -> Ending
     ensures said { result ≡ ending_of_fault fault }
@@ -93,27 +104,23 @@ fn words_refused(alloc: Global, why: &str) -> Stop
     }
 }
 
-/// Returns true if something is at this path that is no regular file. A link is none.
-fn is_no_regular_file<R: Files>(rt: &R, path: &str) -> bool {
-    match fs::symlink_metadata(rt, path) {
-        Ok(metadata) => !metadata.is_file(),
-        Err(_) => false,
+/// Returns the end of the program where the new page file can't be made.
+fn not_made(alloc: Global, why: &NewFileReason<'_>) -> Stop
+    ensures { StopsMigration result.ending }
+{
+    Stop {
+        ending: Ending::OutputFailed,
+        reason: Reason::of(alloc, why),
     }
 }
 
-/// Writes what a writer has left, and syncs its file.
-fn finish_file<W: Write + OpenFile + Drop>(writer: &mut BufWriter<Noted<W>>) -> io::Result<()> {
-    writer.flush()?;
-    writer.get_ref().inner().sync_all()
-}
-
-/// Copies the pages, and syncs the new file, which is at the path `beside`.
+/// Copies the pages into the new file, which is at the path `beside`, and syncs it.
 fn copy_pages<I: Read + Drop, W: Write + OpenFile + Drop, P: Progress>(
     alloc: Global,
     words: &MigrationWords<'_>,
     beside: &str,
     old: I,
-    new: W,
+    new: &mut W,
     geometry: &Geometry,
     progress: &mut P,
 ) -> Result<(), Stop>
@@ -122,7 +129,7 @@ fn copy_pages<I: Read + Drop, W: Write + OpenFile + Drop, P: Progress>(
     let Ok(mut reader) = BufReader::new(alloc, Noted::new(old)) else {
         return Err(no_memory());
     };
-    let Ok(mut writer) = BufWriter::new(alloc, Noted::new(new)) else {
+    let Ok(mut writer) = BufWriter::new(alloc, Noted::new(&mut *new)) else {
         return Err(no_memory());
     };
     match migrate_watched(alloc, &mut reader, &mut writer, geometry, progress) {
@@ -136,30 +143,37 @@ fn copy_pages<I: Read + Drop, W: Write + OpenFile + Drop, P: Progress>(
             });
         }
     }
-    match finish_file(&mut writer) {
+    let flushed = writer.flush();
+    drop(writer);
+    let synced = match flushed {
+        Ok(()) => new.sync_all(),
+        Err(error) => Err(error),
+    };
+    match synced {
         Ok(()) => Ok(()),
         Err(error) => Err(not_written(alloc, beside, error)),
     }
 }
 
-/// Makes a new file at the path `beside`, and renames it to that of the words. Where a step fails, the file that was made is
-/// removed.
-fn make_file<R: Files, P: Progress>(
+/// Makes a new file at the path `beside`, and renames it to that of the words. It stays open, and so locked, until it has
+/// its name. Where a step fails, it is removed.
+fn make_file<R: Files, O: Ports<R>, P: Progress>(
     rt: &R,
     alloc: Global,
     words: &MigrationWords<'_>,
-    old: R::File,
-    geometry: &Geometry,
+    ports: &O,
+    old: Old<R::File>,
     beside: &str,
     progress: &mut P,
 ) -> Result<(), Stop>
     ensures fault { IfErr result (Ends StopsMigration) }
 {
-    let file = match File::create_new(rt, beside) {
-        Ok(file) => file,
-        Err(error) => return Err(not_written(alloc, beside, error)),
+    let Old { file, geometry, id } = old;
+    let mut new = match make_anew(rt, ports, beside, id) {
+        Ok(new) => new,
+        Err(why) => return Err(not_made(alloc, &why)),
     };
-    let copied = copy_pages(alloc, words, beside, old, file, geometry, progress);
+    let copied = copy_pages(alloc, words, beside, file, &mut new, &geometry, progress);
     let made = match copied {
         Ok(()) => match fs::rename(rt, beside, words.new) {
             Ok(()) => Ok(()),
@@ -179,7 +193,7 @@ fn open_old<R: Files>(
     rt: &R,
     alloc: Global,
     words: &MigrationWords<'_>,
-) -> Result<(R::File, Geometry), Stop>
+) -> Result<Old<R::File>, Stop>
     requires possible { IsMigratable (migration_of words.now) }
     ensures fault { IfErr result (Ends StopsMigration) }
 {
@@ -191,11 +205,12 @@ fn open_old<R: Files>(
         Ok(metadata) => metadata,
         Err(error) => return Err(not_read(alloc, words.old, error)),
     };
-    if words.old == words.new || FileId::at(rt, words.new) == Some(FileId::with(&metadata)) {
+    let id = FileId::with(&metadata);
+    if words.old == words.new || FileId::at(rt, words.new) == Some(id) {
         return Err(words_refused(alloc, "error: OLD and NEW are one file"));
     }
     match geometry_of_file(metadata.len(), words.page_size, Format::Plain) {
-        Ok(geometry) => Ok((file, geometry)),
+        Ok(geometry) => Ok(Old { file, geometry, id }),
         Err(refusal) => {
             let why = PageFileReason::BadLength {
                 path: words.old,
@@ -212,37 +227,38 @@ fn open_old<R: Files>(
 
 /// Writes the page file of version 1 that the words name again in version 2, each page with its number and LSN 0. The
 /// new file is written at its path with `.migrating` appended, and is renamed once it is whole; it may replace a
-/// regular file. Where somebody watches, the error output shows how far it has come.
+/// regular file. One that a killed migration left there is made anew. Where somebody watches, the error output shows how
+/// far it has come.
 ///
-/// It is an error where something else than a regular file is at the new path.
+/// `OutputFailed` where something else than a regular file is at one of the two paths, or another migration writes there.
 ///
 /// After an `Err` the old file and what is at the new path are unchanged.
-pub(crate) fn migrate<R: Files, E: Write>(
+pub(crate) fn migrate<R: Files, O: Ports<R>, E: Write>(
     rt: &R,
     alloc: Global,
     words: &MigrationWords<'_>,
-    is_watched: bool,
+    ports: &O,
     err: &mut E,
 ) -> Result<(), Stop>
     requires possible { IsMigratable (migration_of words.now) }
     ensures fault { IfErr result (Ends StopsMigration) }
-    ensures err_kept { is_watched ≡ false → err.new ≡ err.old }
+    ensures err_kept { O.watched ports.now ≡ false → err.new ≡ err.old }
 {
-    let (old, geometry) = open_old(rt, alloc, words)?;
+    let old = open_old(rt, alloc, words)?;
     let new = words.new;
     if is_no_regular_file(rt, new) {
-        return Err(words_refused(alloc, "error: NEW is no regular file"));
+        return Err(not_made(alloc, &NewFileReason::NoRegularFile { path: new }));
     }
     let Ok(beside) = format!(in alloc; "{new}.migrating") else {
         return Err(no_memory());
     };
     let beside = beside.as_str();
-    if is_watched {
+    if ports.is_watched() {
         let mut meter = Meter::new(err);
-        let made = make_file(rt, alloc, words, old, &geometry, beside, &mut meter);
+        let made = make_file(rt, alloc, words, ports, old, beside, &mut meter);
         clear_line(err);
         made
     } else {
-        make_file(rt, alloc, words, old, &geometry, beside, &mut Unwatched)
+        make_file(rt, alloc, words, ports, old, beside, &mut Unwatched)
     }
 }

@@ -2,16 +2,18 @@
 use bp_cli::Reason;
 use bp_page::{Format, Geometry};
 use bp_ports::{OpenFault, Port};
+use std::fs::TryLockError;
 use std::io;
 use std::io::Read;
 use std::marker::Send;
+use std::rt::Files;
 
 /// Opens the page files and the traces that the words name, and saves pictures. The word of a page file is `mem:N`,
 /// which is N pages of zeros in memory, or a path. Traces, lists of references and pictures are at paths.
 ///
 /// The relations `ways` say what each call gave. The contracts of runs are stated by them, so only these calls can meet
 /// those.
-pub trait Ports<R> {
+pub trait Ports<R: Files> {
     type F: Drop;
 
     /// A port of one client.
@@ -75,6 +77,10 @@ pub trait Ports<R> {
     /// that `trace` opened last, which is then unchanged.
     fn save(&mut self, rt: &R, path: &str, bytes: &[u8]) -> io::Result<()>
         ensures { ways.saves path.now bytes.now (is_ok result) };
+
+    /// Locks an open file until it is closed. `WouldBlock` where another open file of it is locked, and `Error` where
+    /// the system has no locks.
+    fn try_lock(&self, file: &R::File) -> Result<(), TryLockError>;
 
     /// Returns why the last call of these that failed did so, and forgets it.
     fn reason(&mut self) -> Reason;

@@ -450,6 +450,10 @@ impl<R: Files<File = File>> Ports<R> for PageFiles {
         fs::write(rt, path, bytes)
     }
 
+    fn try_lock(&self, file: &File) -> Result<(), TryLockError> {
+        file.try_lock()
+    }
+
     fn reason(&mut self) -> Reason {
         mem::replace(&mut self.reason, Reason::Unsaid)
     }

@@ -235,7 +235,7 @@ fn rows_from<I: Read>(
 }
 
 /// Reads the rows of the trace from standard input, or from the file at its path.
-fn rows_of<I: Read, R, O: Ports<R>>(
+fn rows_of<I: Read, R: Files, O: Ports<R>>(
     rt: &R,
     alloc: Global,
     trace: TraceSource<'_>,
@@ -275,7 +275,7 @@ fn ending_of(fault: OpenFault) -> Ending
     }
 }
 
-fn open_file<R, O: Ports<R>>(rt: &R, ports: &mut O, run: &RunWords<'_>) -> Result<O::F, Stop>
+fn open_file<R: Files, O: Ports<R>>(rt: &R, ports: &mut O, run: &RunWords<'_>) -> Result<O::F, Stop>
     requires runnable { IsRunnable (options_of run.now) }
     ensures gave { IfOk result (λ file. O.ways.opens run.now.page_file.now run.now.page_size
         run.now.format (Ok file)) }
@@ -293,7 +293,7 @@ fn open_file<R, O: Ports<R>>(rt: &R, ports: &mut O, run: &RunWords<'_>) -> Resul
 }
 
 /// Returns the ports to the page file that a run of these rows needs.
-fn connect<R, O: Ports<R>>(
+fn connect<R: Files, O: Ports<R>>(
     rt: &R,
     ports: &mut O,
     order: Order,
@@ -350,7 +350,7 @@ fn run_in_order<P: Port + Send, R: Threads + Wait + Sync, W: Write>(
 /// if no row was refused.
 ///
 /// The trace is read whole first: where it has no script, nothing is written.
-fn run_as_asked<R: Threads + Wait + Sync, I: Read, O: Ports<R>, W: Write>(
+fn run_as_asked<R: Files + Threads + Wait + Sync, I: Read, O: Ports<R>, W: Write>(
     rt: &R,
     alloc: Global,
     run: &RunWords<'_>,
@@ -434,7 +434,7 @@ pub fn carry_out<
             Ok(status_of_run(all_accepted))
         }
         Task::Migrate(migration) => {
-            migrate(rt, alloc, &migration, ports.is_watched(), err)?;
+            migrate(rt, alloc, &migration, ports, err)?;
             Ok(0)
         }
         Task::Sweep(sweep) => {

@@ -28,6 +28,7 @@ use bp_trace::InputFault;
 use std::alloc::Global;
 use std::io;
 use std::io::{BufReader, Read, Write};
+use std::rt::Files;
 use std::sync::Wait;
 use std::time::Clock;
 
@@ -79,7 +80,7 @@ fn references_from<I: Read>(
 }
 
 /// Reads the references from standard input, or from the file at their path.
-fn references_of<I: Read, R, O: Ports<R>>(
+fn references_of<I: Read, R: Files, O: Ports<R>>(
     rt: &R,
     alloc: Global,
     words: &SweepWords<'_>,
@@ -173,7 +174,7 @@ fn print_table<W: Write>(alloc: Global, lines: &[Line], out: &mut W) -> Result<(
     }
 }
 
-fn save<R, O: Ports<R>>(
+fn save<R: Files, O: Ports<R>>(
     rt: &R,
     alloc: Global,
     path: &str,
@@ -195,7 +196,7 @@ fn save<R, O: Ports<R>>(
 
 /// Writes the table of these lines, and then their picture, where the words ask for one. The picture is drawn before
 /// anything is written.
-fn write_lines<R, O: Ports<R>, W: Write>(
+fn write_lines<R: Files, O: Ports<R>, W: Write>(
     rt: &R,
     alloc: Global,
     words: &SweepWords<'_>,
@@ -223,7 +224,7 @@ fn write_lines<R, O: Ports<R>, W: Write>(
 }
 
 /// Counts the cells, and writes the table and the picture once all are counted.
-fn show<R: Wait + Clock, O: Ports<R>, W: Write, E: Write>(
+fn show<R: Files + Wait + Clock, O: Ports<R>, W: Write, E: Write>(
     rt: &R,
     alloc: Global,
     words: &SweepWords<'_>,
@@ -251,7 +252,7 @@ fn show<R: Wait + Clock, O: Ports<R>, W: Write, E: Write>(
 /// All references are read before any cell is counted, all cells are counted before the table is written, and the
 /// picture is written last. `PictureNotWritten` comes only where that last step fails; memory for the picture is asked
 /// for before the table is written.
-pub(crate) fn sweep_as_asked<R: Wait + Clock, I: Read, O: Ports<R>, W: Write, E: Write>(
+pub(crate) fn sweep_as_asked<R: Files + Wait + Clock, I: Read, O: Ports<R>, W: Write, E: Write>(
     rt: &R,
     alloc: Global,
     words: &SweepWords<'_>,

@@ -1,6 +1,6 @@
 -- The board, the trail and a client's list tell the same after each section.
 use Rattle.std.proofs.Common.{◌≡◌, ◌≢◌, ◌⊎◌, refl, sym, ap, subst, ◌∙◌, ℕ, zero, suc, Bool, true, false, cond, List, [], ◌∷◌, ◌++◌, length, map, reverse, get_or, set, All, append_assoc, arith, Option, Some, None, Result, Ok, Err, inl, inr}
-use Rattle.std.proofs.lemmas.List.{reverse-append, append_cancel_right, map-append, append-nil, get_or-set_same, get_or-set_other}
+use Rattle.std.proofs.lemmas.List.{reverse-append, append_cancel_right, map-append, append-nil, get_or-set_same, get_or-set_other, length-append, length-reverse, nil_from_length}
 use Rattle.std.proofs.lemmas.List.Elements.{filter-append, filter_map-append, All-nil, All-cons, All-head, All-tail, All-append}
 use native.Mathlib.Decide.{ℕ_discrete}
 use Rattle.bp_page.specs.declared.refusals.Refusal.{Refusal}
@@ -39,7 +39,7 @@ use Rattle.bp_session_log.specs.declared.pending.Fix.TheVariants as fixing
 use Rattle.bp_session_log.specs.declared.pending.Flush.{Flush as Flushing}
 use Rattle.bp_session_log.specs.declared.pending.Flush.TheVariants as flushing
 use Rattle.bp_session_log.specs.Turns.{LookOutcome, refusal_reply, and_told, AskFixOutcome, AskFlushOutcome, ReadSaid, ReadIntoSaid, WriteSaid, EndReadOutcome, EndWriteOutcome}
-use Rattle.bp_shared.specs.Posting.{IsUnfixedBy, TakesBack}
+use Rattle.bp_shared.specs.Posting.{unfixed, IsUnfixedBy, TakesBack}
 use Rattle.bp_shared.specs.Telling.{is_told, told, IsLineOf, IsShown, IsToldBy, IsListOf, IsBlank, GoesOnFrom, AreEarlier}
 
 -- ---- what is told, part by part
@@ -357,6 +357,35 @@ listed_taken_back start c client old new said apart t b = record {
     none_back n m [] apart own = refl
     none_back n m (g ∷ gs) apart own =
         of_client-miss n (unfix_of g) (map unfix_of gs) (λ is. apart (sym is ∙ All-head (λ (g : Grant). g.client ≡ m) g gs own)) ∙ none_back n m gs apart (All-tail (λ (g : Grant). g.client ≡ m) g gs own)
+
+-- rings were drained after a client's own, in which no pass waited that its list gave back: nothing more came out of that
+pub listed_beside : (start past after : Trail) (client : ℕ) (said : Trail) (received known : List Grant) → IsListOf start past client said → AddsUnfixes past after → IsUnfixedBy start after client (reverse received) → received ++ known ≡ reverse (unfixes said) → IsListOf start after client said
+listed_beside start past after client said received known t d u fifo = record {
+  since = map unfix_of d.passes ++ t.since;
+  goes_on = goes_on;
+  theirs = parts ∙ ap (λ gs. map unfix_of gs ++ said) none;
+}
+  where
+    backs : (back : List Grant) × (of_client client (map unfix_of d.passes) ≡ map unfix_of back)
+    backs = backs_of client d.passes
+
+    goes_on : after ≡ (map unfix_of d.passes ++ t.since) ++ start
+    goes_on = d.goes_on ∙ ap (λ es. map unfix_of d.passes ++ es) t.goes_on ∙ sym (append_assoc (map unfix_of d.passes) t.since start)
+
+    parts : of_client client (map unfix_of d.passes ++ t.since) ≡ map unfix_of backs.0 ++ said
+    parts = of_client-append client (map unfix_of d.passes) t.since ∙ ap (λ es. es ++ of_client client t.since) backs.1 ∙ ap (λ es. map unfix_of backs.0 ++ es) t.theirs
+
+    same : map unfix_of d.passes ++ t.since ≡ u.since
+    same = append_cancel_right (map unfix_of d.passes ++ t.since) u.since start (sym goes_on ∙ u.goes_on)
+
+    whole : backs.0 ++ unfixes said ≡ reverse received
+    whole = ap (λ gs. gs ++ unfixes said) (sym (backs_unfix backs.0)) ∙ sym (filter_map-append (λ e. pass_unfixed e.client e.call) (map unfix_of backs.0) said) ∙ sym (ap unfixes parts) ∙ ap (unfixed client) same ∙ u.all
+
+    none : backs.0 ≡ []
+    none =
+        let all = ap length whole in
+        let posted = ap length fifo in
+        nil_from_length backs.0 (omega (arith, all, posted, length-append backs.0 (unfixes said), length-reverse received, length-append received known, length-reverse (unfixes said)))
 
 -- since a pool was made over a core that had said nothing, in the words of the whole trail
 pub listed_whole : (past : Trail) (client : ℕ) (said : Trail) → IsListOf [] past client said → of_client client past ≡ said

@@ -57,14 +57,22 @@ pub record Drained (old new : LockedValue) : Type 0 where
 abbrev pub IsDrained : LockedValue → Type 0
 IsDrained state = (was : LockedValue) × Drained was state
 
--- a section of a session has begun: the rings were drained, then the session's own once more, with
--- both its ends at hand; so the trail's entries of the client are the session's list, and its ring is
--- empty. Both are of one pool
+-- they were drained, and then looked into, which shows that no more came out
+pub record DrainedStill (old new : LockedValue) : Type 0 where
+  pub late : LockedValue
+  pub drained : Drained old late
+  pub same : new ≡ record late { rings = new.rings }
+
+-- a section of a session has begun: rings were drained, the session's own, with both its ends at
+-- hand, and rings once more; so the trail's entries of the client are the session's list, and its
+-- ring is empty. Both are of one pool
 pub record Enters (start : Trail) (session : SessionValue) (state : LockedValue) : Type 0 where
   pub was : LockedValue
   pub mid : LockedValue
-  pub drained : Drained was mid
-  pub takes : TakesBack session.client mid.core state.core
+  pub own : LockedValue
+  pub before : Drained was mid
+  pub takes : TakesBack session.client mid.core own.core
+  pub after : DrainedStill own state
   pub legal : Legal state.core.parameters state.core.past
   pub list_is : IsListOf start state.core.past session.client session.said
   pub emptied : session.free ≡ 32

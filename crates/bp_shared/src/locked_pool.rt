@@ -79,7 +79,7 @@ impl<N: PartNames, K: ListKeeper> LockedPool<N, K> {
     ghost use Rattle.bp_trail.specs.Legal.{Legal};
     ghost use Rattle.bp_session_log.specs.Rings.{ring_view, ring_of, ring_at};
     ghost use Rattle.bp_shared.specs.Posting.{TakesBack};
-    ghost use Rattle.bp_shared.specs.Locked.{Drained};
+    ghost use Rattle.bp_shared.specs.Locked.{Drained, DrainedStill, Enters};
     ghost use Rattle.bp_shared.specs.Taking.{IsEmptied};
     ghost use Rattle.bp_shared.specs.Telling.{AreEarlier, GoesOnFrom, IsListOf, IsShown};
 
@@ -140,6 +140,7 @@ impl<N: PartNames, K: ListKeeper> LockedPool<N, K> {
     ///
     /// Where no ring is asked and none is known to hold a pass, no client's end is looked at: the ends lie side by side,
     /// and each client writes to its own.
+    #[inline(always)]
     pub(crate) fn drain(&mut self, asked: u64)
         ensures { Drained self.old self.new }
     {
@@ -149,10 +150,52 @@ impl<N: PartNames, K: ListKeeper> LockedPool<N, K> {
         self.is_quiet = drain_all(&mut self.core, &mut self.consumers, asked);
     }
 
-    /// Begins a session's critical section: gives each pass back that waits in the session's own ring, and writes its
-    /// list on its line. Each of the passes is out, since the list gave it back while it held it. So the trail's entries
-    /// of the client are the session's list, and its ring is empty.
-    pub(crate) fn drain_own(&mut self, session: &mut Session<N, K>)
+    /// Begins a session's critical section. It drains the rings that are to be asked, bit c for that of client c, and each
+    /// in which a pass is known to wait, in the order of the clients. The session's own is drained in its place, asked
+    /// or not: the trail's entries of the client are the session's list then, and its ring is empty.
+    #[inline(always)]
+    pub(crate) fn begin(&mut self, asked: u64, session: &mut Session<N, K>)
+        requires part { session.old.part ≡ self.old.part }
+        ensures part { self.new.part ≡ self.old.part }
+        ensures session { session.new ≡ record session.old { free = 32 } }
+        ensures free { session.old.free ≤ 32 }
+        ensures entered { Enters N.past session.new self.new }
+    {
+        let own = 1u64.wrapping_shl(u32::from(session.client()));
+        let before = own.wrapping_sub(1);
+        self.drain(asked & before);
+        self.drain_own(session);
+        let after = asked & !before & !own;
+        if after != 0 || !self.is_quiet {
+            self.drain_after(after, session);
+        }
+    }
+
+    /// Drains rings as `drain` does, once the session's own was drained. With both its ends at hand that is seen to have
+    /// given nothing more.
+    #[inline(never)]
+    fn drain_after(&mut self, asked: u64, session: &mut Session<N, K>)
+        requires part { session.old.part ≡ self.old.part }
+        requires emptied { session.old.free ≡ 32 }
+        requires list { IsListOf N.past self.old.core.past session.old.client session.old.said }
+        ensures part { self.new.part ≡ self.old.part }
+        ensures session { session.new ≡ session.old }
+        ensures drained { DrainedStill self.old self.new }
+        ensures legal { Legal self.new.core.parameters self.new.core.past }
+        ensures list { IsListOf N.past self.new.core.past session.old.client session.old.said }
+    {
+        self.drain(asked);
+        let client = usize::from(session.client());
+        let consumer = &mut self.consumers[client];
+        consumer.slots_beside(&mut session.producer);
+        self.is_quiet = self.is_quiet & (consumer.cached_slots() == 0);
+        self.core.keeps_the_rules();
+    }
+
+    /// Gives each pass back that waits in the session's own ring, and writes its list on its line. Each of the passes is
+    /// out, since the list gave it back while it held it. So the trail's entries of the client are the session's list,
+    /// and its ring is empty.
+    pub(super) fn drain_own(&mut self, session: &mut Session<N, K>)
         requires part { N.ring session.old.part ≡ N.ring self.old.part }
         ensures part { self.new.part ≡ self.old.part }
         ensures takes { TakesBack session.old.client self.old.core self.new.core }

@@ -261,7 +261,7 @@ impl<N: PartNames, K: ListKeeper> SharedPool<N, K> {
     ghost use Rattle.bp_trail.specs.Clock.{durable};
     ghost use Rattle.bp_shared.specs.Locked.{Enters};
     ghost use Rattle.bp_shared.specs.Sessions.{new_sessions_of, IsRoomy, UnfixSaid};
-    ghost use Rattle.bp_shared.specs.Telling.{GoesOnFrom};
+    ghost use Rattle.bp_shared.specs.Telling.{GoesOnFrom, Sees};
 
     /// Makes the pool of this number over a core, as `new` does, one of several side by side. Each is told from the
     /// others by its number alone: give each another.
@@ -381,10 +381,15 @@ impl<N: PartNames, K: ListKeeper> SharedPool<N, K> {
         }
     }
 
-    /// Takes the lock, for which it may wait, and drains all rings: the passes that wait there go back to the core. It
-    /// takes no memory.
-    pub fn settle<R: Wait>(&self, rt: &R) {
-        locked(rt, &self.state).drain(ALL);
+    /// Takes the lock, for which it may wait, and drains all rings: the passes that wait there go back to the core. Then
+    /// all that the session had posted has gone back, and all 32 places of its ring are free. It takes no memory, and
+    /// adds no entry of its own.
+    pub fn settle<R: Wait>(&self, rt: &R, session: &mut Session<N, K>)
+        ensures sees { Sees N.parameters N.past session.old session.new }
+    {
+        let mut state = self.of_part(rt, session.part, locked(rt, &self.state));
+        state.begin(ALL, session);
+        state.show(session);
     }
 
     /// Takes the lock, and drains the rings that clients announced, and those in which a pass is known to wait. The
@@ -400,10 +405,7 @@ impl<N: PartNames, K: ListKeeper> SharedPool<N, K> {
         ensures part { (mutex_guard_value result).part ≡ self.now }
     {
         let mut state = self.of_part(rt, session.part, locked(rt, &self.state));
-        // The session's own ring is drained with both its ends at hand.
-        let own = 1u64.wrapping_shl(u32::from(session.client()));
-        state.drain(self.posted.take() & !own);
-        state.drain_own(session);
+        state.begin(self.posted.take(), session);
         state
     }
 

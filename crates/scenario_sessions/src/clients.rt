@@ -182,7 +182,12 @@ fn write<N: PoolName, K: Kind, R: Wait>(
     match u32::try_from(offset) {
         Ok(offset) if fits => {
             let lsn = Lsn::new(lsn);
-            done(pool.write_from(rt, session, pass, offset, bytes.bytes(), lsn))
+            done(match call.verb {
+                Verb::WriteFrom => {
+                    pool.write_from(rt, session, pass, offset, bytes.bytes(), lsn)
+                }
+                _ => pool.write(rt, session, pass, offset, bytes, lsn),
+            })
         }
         _ => Answer::BadLine,
     }
@@ -244,7 +249,7 @@ fn by_session<N: PoolName, K: Kind, R: Wait>(
         Verb::Tick => done(pool.tick(rt, session, second)),
         Verb::Purge => forgot(pool.purge(rt, session)),
         Verb::Settle => {
-            pool.settle(rt);
+            pool.settle(rt, session);
             Answer::Reply(Reply::Done)
         }
         _ => Answer::BadLine,

@@ -21,7 +21,7 @@ use std::sync::Wait;
 
 impl<N: PartNames, K: ListKeeper> LockedPool<N, K> {
     /// Shows the session the trail as it is.
-    pub(super) fn show(&mut self, session: &mut Session<N, K>)
+    pub(crate) fn show(&mut self, session: &mut Session<N, K>)
         requires entered { Enters N.past session.old self.old }
         ensures sees { Sees N.parameters N.past session.old session.new }
         ensures core { self.new ≡ self.old }

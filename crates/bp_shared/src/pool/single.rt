@@ -6,7 +6,7 @@ use crate::names::PartNames;
 use crate::session::Session;
 use bp_core::Pass;
 use bp_keeper::ListKeeper;
-use bp_page::{Image, Lsn, Refusal};
+use bp_page::{Bytes, Image, Lsn, Refusal};
 use bp_session_log::{Purge, Room, Tick};
 use std::sync::Wait;
 
@@ -77,6 +77,27 @@ impl<N: PartNames, K: ListKeeper> SharedPool<N, K> {
         session.book.reserve(Room::IMAGE)?;
         let mut state = self.lock_and_drain(rt, session);
         state.read_into(session, pass, offset, into)
+    }
+
+    /// Writes bytes into a pass's page as `write_from` does, refusals too: bytes that own their memory, as a row has them.
+    pub fn write<R: Wait>(
+        &self,
+        rt: &R,
+        session: &mut Session<N, K>,
+        pass: &Pass,
+        offset: u32,
+        bytes: &Bytes,
+        lsn: Lsn,
+    ) -> Result<(), Refusal>
+        requires fits { offset + length bytes.now ≤ N.parameters.size }
+        ensures look { LooksIn K.REFUSES N.parameters N.past pass.now result
+            session.old session.new }
+        ensures outcome { WriteSaid session.old.client pass.now offset bytes.now lsn result
+            session.old.said session.new.said }
+        ensures memory { K.REFUSES ≡ false → result ≡ Err Refusal.OutOfMemory
+            → IsLong session.new }
+    {
+        self.write_from(rt, session, pass, offset, bytes.bytes(), lsn)
     }
 
     /// Writes bytes into a pass's page, from the offset on, and raises the page LSN to `lsn` if that is greater.
