@@ -14,4 +14,6 @@ mod many_threads;
 #[cfg(test)]
 mod scratch;
 #[cfg(test)]
+mod settling;
+#[cfg(test)]
 mod two_parts;
