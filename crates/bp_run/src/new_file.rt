@@ -14,17 +14,11 @@ pub(crate) enum NewFileReason<'a> {
     #[error("{0}")]
     System(SystemFault<'a>),
     #[error("{path}: it is no regular file")]
-    NoRegularFile {
-        path: &'a str,
-    },
+    NoRegularFile { path: &'a str },
     #[error("{path}: it is OLD")]
-    IsOld {
-        path: &'a str,
-    },
+    IsOld { path: &'a str },
     #[error("{path}: another migration has it")]
-    InUse {
-        path: &'a str,
-    },
+    InUse { path: &'a str },
 }
 
 impl<'a> NewFileReason<'a> {
