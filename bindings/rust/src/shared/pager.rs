@@ -350,7 +350,8 @@ impl<F: PageIo> SharedPager<F> {
         part.join_write(own)
     }
 
-    /// The second step: it may wait, use the device, and fail.
+    /// The second step: it may wait, use the device, and fail. What was missed is let go first: of whichever
+    /// pager it is.
     #[doc(hidden)]
     #[cold]
     #[inline(never)]
@@ -359,8 +360,8 @@ impl<F: PageIo> SharedPager<F> {
         page: u64,
         missed: MissedAlone<'a>,
     ) -> Result<PageMut<'a>, PagerError> {
+        drop(missed);
         let (part, own) = self.place(page)?;
-        part.undo(missed);
         Ok(self.pinned(part, own, WAITING)?.into_write()?)
     }
 
@@ -375,7 +376,7 @@ impl<F: PageIo> SharedPager<F> {
         match part.join_write(own) {
             Ok(page) => Ok(Some(page)),
             Err(missed) => {
-                part.undo(missed);
+                drop(missed);
                 let pin = self.pinned(part, own, NOT_WAITING);
                 pin.map(PagePin::try_into_write)
             }

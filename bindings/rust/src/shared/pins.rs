@@ -40,9 +40,12 @@ pub struct Missed<'a> {
     before: Word,
 }
 
-/// The same of an exclusive latch: the seat of another page, which was latched in vain.
-#[must_use = "the latch is still taken"]
-pub struct MissedAlone<'a>(Option<&'a Seat>);
+/// The same of an exclusive latch: that of another page, which has the seat by now. It has its part with it,
+/// and lets the latch go as it is dropped: so it does no harm whichever pager, and page, it is given to.
+#[must_use = "the latch of another page is taken while it is there"]
+pub struct MissedAlone<'a>(
+    #[expect(dead_code, reason = "it is only dropped")] Option<Share<'a, WRITER>>,
+);
 
 /// How a page came to be in its frame.
 #[derive(Clone, Copy, PartialEq, Eq)]
@@ -111,20 +114,14 @@ impl Part {
         let Some(seat) = free else {
             return Err(MissedAlone(None));
         };
+        // SAFETY: the pass was out, and the latch free.
+        let share = unsafe { Share::new(self, seat) };
         // Another page may have the seat since it was looked up.
         if seat.page() != page {
-            return Err(MissedAlone(free));
+            return Err(MissedAlone(Some(share)));
         }
         seat.touch(self.now());
-        // SAFETY: the pass was out, and the latch free.
-        Ok(PageMut::new(unsafe { Share::new(self, seat) }))
-    }
-
-    /// Takes a latch back that was taken in vain.
-    pub(super) fn undo(&self, missed: MissedAlone<'_>) {
-        if let Some(seat) = missed.0 {
-            self.leave(seat, WRITER);
-        }
+        Ok(PageMut::new(share))
     }
 
     /// The same without a latch.
@@ -395,5 +392,69 @@ impl Part {
         let used = |seat: &usize| self.seats.seat(*seat).word().is_out();
         let going_out = state.firsts.going_out();
         unused + going_out.filter(used).count() > counts.writing
+    }
+}
+
+#[cfg(test)]
+#[allow(clippy::unwrap_used)]
+mod tests {
+    use super::*;
+    use crate::{PageIo, PagerError, ReadFault, SharedConfig, SharedPager};
+    use std::io;
+    use std::time::Duration;
+
+    /// Each page has its number in all of its bytes.
+    struct Numbered;
+
+    impl PageIo for Numbered {
+        fn read_page(&self, page: u64, image: &mut [u8]) -> Result<(), ReadFault> {
+            image.fill(page as u8);
+            Ok(())
+        }
+
+        fn write_page(&self, _page: u64, _image: &mut [u8], _lsn: u64) -> io::Result<()> {
+            Ok(())
+        }
+
+        fn make_log_durable(&self, _lsn: u64) -> io::Result<()> {
+            Ok(())
+        }
+
+        fn sync(&self) -> io::Result<()> {
+            Ok(())
+        }
+    }
+
+    /// A pager with one frame.
+    fn pager() -> SharedPager<Numbered> {
+        let config = SharedConfig {
+            correlated: 0,
+            pin_wait: Duration::from_millis(20),
+            ..SharedConfig::with_parts(8, 64, 1, 1)
+        };
+        SharedPager::new(&config, Numbered).unwrap()
+    }
+
+    // What was missed of one pager goes to the call of another, in which a page is looked at: that one stays in its
+    // frame, as it is, and the latch is free again where it was taken. The seat had another page, as where that comes
+    // between two looks at it.
+    #[test]
+    fn latch_missed_of_another_pager() {
+        let (one, other) = (pager(), pager());
+        let look = other.read(3).unwrap();
+        let pin = one.pin(3).unwrap();
+        let part = &one.parts[0];
+        let seat = part.seats.out(3).unwrap();
+        assert!(seat.join_alone());
+        drop(pin);
+        // SAFETY: the pass is out, and the latch was taken just now.
+        let missed = MissedAlone(Some(unsafe { Share::new(part, seat) }));
+        assert!(one.try_read(3).unwrap().is_none());
+        let told = other.write_slowly(5, missed).map(drop).unwrap_err();
+        assert!(matches!(told, PagerError::Refused(Error::NoVictim)));
+        assert!(other.is_resident(3));
+        assert_eq!(*look, [3; 64]);
+        assert_eq!(one.try_read(3).unwrap().unwrap()[0], 3);
+        assert_eq!((one.stats().pinned, other.stats().pinned), (0, 1));
     }
 }
