@@ -163,7 +163,8 @@ impl<F> SharedPager<F> {
     }
 }
 
-/// Threads that read pages ahead. They end when this is dropped.
+/// Threads that read pages ahead. They end when this is dropped, and the drop waits for that: but where a
+/// function of the engine drops it in one of them, that one ends once the function has.
 #[must_use = "the threads end when this is dropped"]
 pub struct Readers {
     end: Box<dyn Fn() + Send + Sync>,
@@ -227,10 +228,16 @@ impl<F: PageIo + Send + Sync + 'static> SharedPager<F> {
 impl Drop for Readers {
     fn drop(&mut self) {
         (self.end)();
-        for thread in self.threads.drain(..) {
-            // Its panics were caught.
-            let _ = thread.join();
-        }
+        self.threads.drain(..).for_each(join);
+    }
+}
+
+/// Waits until a thread has ended, but for the calling one: where a function of the engine drops a thread's owner
+/// in that thread, it ends once that function has.
+pub(super) fn join(thread: JoinHandle<()>) {
+    if thread.thread().id() != thread::current().id() {
+        // Its panics were caught.
+        let _ = thread.join();
     }
 }
 

@@ -1,4 +1,5 @@
 //! A shared pager's counters, and the pages that are cleaned before they have to make way.
+use super::ahead::join;
 use super::pager::SharedPager;
 use super::part::{FEW_PAGES, Locked, Part};
 use super::work::Writing;
@@ -211,7 +212,8 @@ fn next_ready<'a>(
     Ok(None)
 }
 
-/// A thread that calls [`SharedPager::clean`] repeatedly. It ends when this is dropped.
+/// A thread that calls [`SharedPager::clean`] repeatedly. It ends when this is dropped, and the drop waits for
+/// that: but where a function of the engine drops it in this thread, it ends once the function has.
 #[derive(Debug)]
 #[must_use = "the thread ends when this is dropped"]
 pub struct Cleaner {
@@ -275,9 +277,6 @@ impl<F: PageIo + Send + Sync + 'static> SharedPager<F> {
 impl Drop for Cleaner {
     fn drop(&mut self) {
         self.end.come();
-        if let Some(thread) = self.thread.take() {
-            // Its panics were caught.
-            let _ = thread.join();
-        }
+        self.thread.take().into_iter().for_each(join);
     }
 }

@@ -502,6 +502,27 @@ fn readers_end() {
     drop(pager.start_readers(0).unwrap());
 }
 
+// The device drops the threads that read in one of them, as where it has the last share of an engine. The drop waits
+// for the other one, and the page is read. Then that thread ends too.
+#[test]
+fn readers_dropped_in_their_own_thread() {
+    let _watch = Watch::over("readers_dropped_in_their_own_thread", 60);
+    let pager = shared(4);
+    let kept = Arc::new(Mutex::new(Some(pager.start_readers(2).unwrap())));
+    let (owner, has_dropped) = (Arc::clone(&kept), Arc::new(AtomicBool::new(false)));
+    let dropped = Arc::clone(&has_dropped);
+    pager.io().within(move |_| {
+        drop(owner.lock().unwrap().take());
+        dropped.store(true, Ordering::SeqCst);
+    });
+    pager.prefetch([3]);
+    wait_for(&pager, [3]);
+    assert!(has_dropped.load(Ordering::SeqCst));
+    assert!(kept.lock().unwrap().is_none());
+    wait_until(|| Arc::strong_count(&pager) == 1);
+    assert_eq!(pager.io().asked(), [Asked::Read(3)]);
+}
+
 // While some threads end, what is asked for is read by others: also where one that ends was woken for it.
 #[test]
 fn pages_are_read_while_others_end() {

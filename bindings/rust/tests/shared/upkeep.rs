@@ -1,7 +1,7 @@
 //! Checkpoints, and pages that are written out before they have to make way.
-use crate::device::{Asked, Device, Fate, Gate, config, pager, put, with_an_unsaved_page};
+use crate::device::{Asked, Device, Fate, Gate, Watch, config, pager, put, with_an_unsaved_page};
 use hojzmated::{SharedConfig, SharedPager};
-use std::sync::Arc;
+use std::sync::{Arc, Mutex};
 use std::thread;
 use std::time::{Duration, Instant};
 
@@ -265,4 +265,28 @@ fn cleaner() {
     assert_eq!(Arc::strong_count(&pager), 1);
     let cleaner = pager.start_cleaner(4, Duration::from_secs(3600)).unwrap();
     drop(cleaner);
+}
+
+// The device drops the cleaner in the cleaner's own thread. The page that it writes goes out, and the thread ends.
+#[test]
+fn cleaner_dropped_in_its_own_thread() {
+    let _watch = Watch::over("cleaner_dropped_in_its_own_thread", 60);
+    let pager = Arc::new(pager(2));
+    let kept = Arc::new(Mutex::new(None));
+    let owner = Arc::clone(&kept);
+    pager.io().within(move |asked| {
+        if let Asked::Write(..) = asked {
+            drop(owner.lock().unwrap().take());
+        }
+    });
+    // The cleaner looks for pages again and again until one is unsaved.
+    let cleaner = pager.start_cleaner(1, Duration::from_micros(100)).unwrap();
+    *kept.lock().unwrap() = Some(cleaner);
+    put(&pager, 3, 7, 0);
+    while Arc::strong_count(&pager) > 1 {
+        thread::yield_now();
+    }
+    assert!(kept.lock().unwrap().is_none());
+    assert_eq!(pager.stats().unsaved, 0);
+    assert_eq!(pager.io().pages.lock().unwrap()[3][0], 7);
 }
