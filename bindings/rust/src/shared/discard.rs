@@ -1,6 +1,7 @@
 //! Pages of a shared pager that are dropped unwritten.
 use super::pager::SharedPager;
 use super::part::{Locked, Part, State};
+use super::within::Waited;
 use crate::{Error, PageIo, PagerError, Result};
 use std::time::{Duration, Instant};
 
@@ -53,12 +54,12 @@ impl<F: PageIo> SharedPager<F> {
 
 impl Part {
     fn discard(&self, own: u64, most: Duration) -> Result<bool> {
-        let mut began = None;
+        let (mut began, waited) = (None, Waited::default());
         let mut state = self.lock();
         loop {
             if self.let_go(&mut state, own) {
                 match state.pool.discard(0, own) {
-                    Err(Error::Busy) => state = self.wait_for_work(state, own)?,
+                    Err(Error::Busy) => state = self.wait_for_work(state, own, &waited)?,
                     Ok(was_resident) => {
                         self.forget(state, own);
                         return Ok(was_resident);

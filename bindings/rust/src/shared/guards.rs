@@ -2,6 +2,7 @@
 use super::pager::SharedPager;
 use super::part::Part;
 use super::seats::Seat;
+use super::within::Waited;
 use super::word::{PIN, READER, WRITER, Word};
 use crate::{Error, Result};
 use std::cell::Cell;
@@ -153,7 +154,7 @@ impl<'a> PagePin<'a> {
     #[inline]
     pub fn read(&self) -> PageRef<'_> {
         let Share { part, seat } = self.0;
-        had(part.take_latch(seat, READER, 0));
+        had(part.take_latch(seat, READER));
         // SAFETY: the latch was taken, while a pin is out.
         PageRef::new(unsafe { Share::new(part, seat) })
     }
@@ -176,7 +177,7 @@ impl<'a> PagePin<'a> {
     #[inline]
     pub fn write(&self) -> PageMut<'_> {
         let Share { part, seat } = self.0;
-        had(part.take_latch(seat, WRITER, 0));
+        had(part.take_latch(seat, WRITER));
         // SAFETY: the latch was taken, while a pin is out.
         PageMut::new(unsafe { Share::new(part, seat) })
     }
@@ -192,9 +193,9 @@ impl<'a> PagePin<'a> {
 
     /// Turns the pin into a latch: its share becomes that of the latch.
     #[inline]
-    fn into_latch<const KIND: u64>(self) -> Result<Share<'a, KIND>> {
+    fn into_latch<const KIND: u64>(self, waited: &Waited) -> Result<Share<'a, KIND>> {
         let Share { part, seat } = self.0;
-        part.take_latch(seat, KIND, PIN)?;
+        part.turn_pin(seat, KIND, waited)?;
         std::mem::forget(self);
         // SAFETY: the pass is out while the share is that of the pin, which is no more, or of the
         // latch.
@@ -213,8 +214,8 @@ impl<'a> PagePin<'a> {
     }
 
     #[inline]
-    pub(super) fn into_read(self) -> Result<PageRef<'a>> {
-        self.into_latch().map(PageRef::new)
+    pub(super) fn into_read(self, waited: &Waited) -> Result<PageRef<'a>> {
+        self.into_latch(waited).map(PageRef::new)
     }
 
     #[inline]
@@ -223,8 +224,8 @@ impl<'a> PagePin<'a> {
     }
 
     #[inline]
-    pub(super) fn into_write(self) -> Result<PageMut<'a>> {
-        self.into_latch().map(PageMut::new)
+    pub(super) fn into_write(self, waited: &Waited) -> Result<PageMut<'a>> {
+        self.into_latch(waited).map(PageMut::new)
     }
 
     #[inline]

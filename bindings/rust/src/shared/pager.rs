@@ -6,7 +6,7 @@ use super::log::Log;
 use super::part::{Fix, Locked, Part, Unlogged, turn_of, turn_of_power};
 use super::pins::{Came, Joined, Missed, MissedAlone, PASSES};
 use super::seats::list_of;
-use super::within::{self, Work};
+use super::within::{self, Waited, Work};
 use super::work::{Reading, Writing};
 use super::write_outs::Syncs;
 use crate::{Error, PageIo, PagerError, ReadFault, Result};
@@ -102,8 +102,9 @@ use std::time::{Duration, Instant};
 /// is refused where it would wait for the function that it is in: with [`Error::Busy`] for a page that
 /// the function is to read or write out; with [`PagerError::Log`] in `make_log_durable`, where a page
 /// has to make way whose record is not durable; with [`PagerError::Sync`] in [`sync`](PageIo::sync).
-/// And it waits for a latch, or for a page that another thread reads or writes out, no longer than
-/// [`SharedConfig::pin_wait`], after which it is refused with [`Error::Busy`]. Turns at the log and at
+/// And it waits for a page that another thread reads or writes out, and for its latch, no longer than
+/// [`SharedConfig::pin_wait`] in all, whatever others do meanwhile. After that it is refused with
+/// [`Error::Busy`]. A call for several pages has so long for each. Turns at the log and at
 /// the sync have no such end: `sync` must not wait for the log, nor `make_log_durable` for a sync.
 ///
 /// # What counts as a reference
@@ -298,11 +299,13 @@ impl<F: PageIo> SharedPager<F> {
         missed: Missed<'a>,
     ) -> Result<PageRef<'a>, PagerError> {
         let (part, own) = self.place(page)?;
-        match part.join_read_slowly(own, missed) {
-            Joined::Latched(page) => Ok(page),
-            Joined::Pinned(pin) => Ok(pin.into_read()?),
-            Joined::Not => Ok(self.fix(part, own, WAITING)?.into_read()?),
-        }
+        let waited = Waited::default();
+        let pin = match part.join_read_slowly(own, missed) {
+            Joined::Latched(page) => return Ok(page),
+            Joined::Pinned(pin) => pin,
+            Joined::Not => self.fix(part, own, WAITING, &waited)?,
+        };
+        Ok(pin.into_read(&waited)?)
     }
 
     /// Returns a page under its shared latch, without waiting for a latch or a pin: None where the
@@ -322,7 +325,7 @@ impl<F: PageIo> SharedPager<F> {
             Joined::Latched(page) => Ok(Some(page)),
             Joined::Pinned(pin) => Ok(pin.try_into_read()),
             Joined::Not => {
-                let pin = self.fix(part, own, NOT_WAITING);
+                let pin = self.fix(part, own, NOT_WAITING, &Waited::default());
                 pin.map(PagePin::try_into_read)
             }
         }
@@ -361,8 +364,7 @@ impl<F: PageIo> SharedPager<F> {
         missed: MissedAlone<'a>,
     ) -> Result<PageMut<'a>, PagerError> {
         drop(missed);
-        let (part, own) = self.place(page)?;
-        Ok(self.pinned(part, own, WAITING)?.into_write()?)
+        self.latched_alone(page, WAITING)
     }
 
     /// Returns a page under its exclusive latch, without waiting for a latch or a pin: None where
@@ -412,8 +414,18 @@ impl<F: PageIo> SharedPager<F> {
     /// # Errors
     /// Those of [`SharedPager::read`], except for [`PagerError::Read`].
     pub fn new_page(&self, page: u64) -> Result<PageMut<'_>, PagerError> {
+        self.latched_alone(page, NEW)
+    }
+
+    /// Returns a page under its exclusive latch, for which it waits.
+    fn latched_alone(&self, page: u64, asked: Asked) -> Result<PageMut<'_>, PagerError> {
         let (part, own) = self.place(page)?;
-        Ok(self.pinned(part, own, NEW)?.into_write()?)
+        let waited = Waited::default();
+        let pin = match part.join(own) {
+            Some(pin) => pin,
+            None => self.fix(part, own, asked, &waited)?,
+        };
+        Ok(pin.into_write(&waited)?)
     }
 
     #[inline]
@@ -425,7 +437,7 @@ impl<F: PageIo> SharedPager<F> {
     ) -> Result<PagePin<'a>, PagerError> {
         match part.join(own) {
             Some(pin) => Ok(pin),
-            None => self.fix(part, own, asked),
+            None => self.fix(part, own, asked, &Waited::default()),
         }
     }
 
@@ -436,6 +448,7 @@ impl<F: PageIo> SharedPager<F> {
         part: &'a Part,
         own: u64,
         asked: Asked,
+        waited: &Waited,
     ) -> Result<PagePin<'a>, PagerError> {
         let mut state = part.with_image(part.lock())?;
         if let Some(seat) = part.seats.out(own) {
@@ -447,7 +460,7 @@ impl<F: PageIo> SharedPager<F> {
         part.tick_for_call(&mut state)?;
         match part.ask(&mut state, own) {
             Ok(Fix::Here(pass)) => Ok(part.pinned(state, pass, Came::Here)?),
-            fixed => self.go_on(part, own, state, asked, fixed),
+            fixed => self.go_on(part, own, state, asked, fixed, waited),
         }
     }
 
@@ -460,6 +473,7 @@ impl<F: PageIo> SharedPager<F> {
         mut state: Locked<'a>,
         asked: Asked,
         mut fixed: Result<Fix>,
+        waited: &Waited,
     ) -> Result<PagePin<'a>, PagerError> {
         let mut patience = Patience::new(part, asked.may_wait.then_some(self.config.pin_wait));
         loop {
@@ -483,7 +497,7 @@ impl<F: PageIo> SharedPager<F> {
                 }
                 Err(Error::Busy) => {
                     patience.has_aged = false;
-                    part.wait_for_work(state, own)?
+                    part.wait_for_work(state, own, waited)?
                 }
                 Err(Error::NoVictim) => patience.make_way(state)?,
                 Err(error) => return Err(error.into()),

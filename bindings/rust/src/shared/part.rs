@@ -6,7 +6,8 @@ use super::kept::Kept;
 use super::latch::Queues;
 use super::places::Places;
 use super::seats::{FreeSeats, Seat, Seats, filled, list_of};
-use super::within;
+use super::within::{self, Waited};
+use super::word::PIN;
 use crate::image::Image;
 use crate::{
     Config, Error, Fixed, Flushed, Pass, Pool, ReadTicket, Result, UnsavedPage, WriteTicket,
@@ -17,7 +18,7 @@ use std::ops::Range;
 use std::sync::atomic::{AtomicU64, AtomicUsize, Ordering};
 use std::sync::{Condvar, Mutex, MutexGuard, PoisonError, TryLockError};
 use std::thread;
-use std::time::{Duration, Instant};
+use std::time::Duration;
 
 /// A proved pool under a lock, with the latches of the pages in its frames. It has cache lines of
 /// its own. No thread does device work or waits while it holds the lock.
@@ -214,31 +215,38 @@ impl Part {
         Ok(state)
     }
 
-    /// Sleeps until the device work on a page has ended.
+    /// Sleeps until the device work on a page has ended, or some on another page that has its place.
     ///
     /// # Errors
     /// [`Error::Busy`] in a function of the engine which does that work itself, or which another
-    /// thread waits for: there it waits for the pin wait at most.
-    pub(super) fn wait_for_work<'a>(&self, mut state: Locked<'a>, page: u64) -> Result<Locked<'a>> {
+    /// thread waits for: there a call waits for the pin wait at most, however often it is woken.
+    pub(super) fn wait_for_work<'a>(
+        &self,
+        mut state: Locked<'a>,
+        page: u64,
+        waited: &Waited,
+    ) -> Result<Locked<'a>> {
         let page_in_file = self.in_file(page);
         if within::is_within(self.pager, |work| work.has_page(page_in_file)) {
             return Err(Error::Busy);
         }
+        let left = match self.is_within() {
+            true => Some(waited.left(self.pin_wait).ok_or(Error::Busy)?),
+            false => None,
+        };
         let place = place_of(page);
         let worked = &self.locked.worked[place];
         state.for_work[place] += 1;
         state.waits += 1;
-        let has_ended = if self.is_within() {
-            let waited = worked.wait_timeout(state, self.pin_wait);
-            let (locked, end) = waited.unwrap_or_else(PoisonError::into_inner);
-            state = locked;
-            !end.timed_out()
-        } else {
-            state = worked.wait(state).unwrap_or_else(PoisonError::into_inner);
-            true
+        state = match left {
+            Some(left) => {
+                let woken = worked.wait_timeout(state, left);
+                woken.unwrap_or_else(PoisonError::into_inner).0
+            }
+            None => worked.wait(state).unwrap_or_else(PoisonError::into_inner),
         };
         state.for_work[place] -= 1;
-        has_ended.then_some(state).ok_or(Error::Busy)
+        Ok(state)
     }
 
     /// Sleeps until some page is unpinned, or for at most `most`. It does not where what is waited
@@ -312,32 +320,47 @@ impl Part {
         within::is_within(self.pager, |_| true)
     }
 
-    /// Waits for a latch, in place of another share.
+    /// Waits for a latch, beside a pin.
     ///
     /// # Errors
     /// [`Error::Busy`] in a function of the engine, where it waits for the pin wait at most;
     /// [`Error::TooManyGuards`].
     #[inline]
-    pub(super) fn take_latch(&self, seat: &Seat, latch: u64, in_place_of: u64) -> Result<()> {
-        if seat.try_latch(latch, in_place_of) {
+    pub(super) fn take_latch(&self, seat: &Seat, latch: u64) -> Result<()> {
+        if seat.try_latch(latch, 0) {
             return Ok(());
         }
-        self.wait_for_latch(seat, latch, in_place_of)
+        self.wait_for_latch(seat, latch, 0, &Waited::default())
+    }
+
+    /// Waits for a latch in place of a pin, as the last step of a call.
+    ///
+    /// # Errors
+    /// The same, where the call waits for the pin wait at most in all.
+    #[inline]
+    pub(super) fn turn_pin(&self, seat: &Seat, latch: u64, waited: &Waited) -> Result<()> {
+        if seat.try_latch(latch, PIN) {
+            return Ok(());
+        }
+        self.wait_for_latch(seat, latch, PIN, waited)
     }
 
     #[cold]
-    fn wait_for_latch(&self, seat: &Seat, latch: u64, in_place_of: u64) -> Result<()> {
+    fn wait_for_latch(
+        &self,
+        seat: &Seat,
+        latch: u64,
+        in_place_of: u64,
+        waited: &Waited,
+    ) -> Result<()> {
         if seat.latch_soon(latch, in_place_of) {
             return Ok(());
         }
         if self.is_within() {
             // A thread that has the latch may wait for this one: so it does not queue.
-            let began = Instant::now();
             while !seat.try_latch(latch, in_place_of) {
-                if began.elapsed() >= self.pin_wait {
-                    return Err(Error::Busy);
-                }
-                thread::sleep(REST);
+                let left = waited.left(self.pin_wait).ok_or(Error::Busy)?;
+                thread::sleep(REST.min(left));
             }
             return Ok(());
         }

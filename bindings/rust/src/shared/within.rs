@@ -2,6 +2,7 @@
 //! what that function is to do.
 use std::cell::Cell;
 use std::ptr;
+use std::time::{Duration, Instant};
 
 /// What a pager has the engine do.
 #[derive(Clone, Copy, PartialEq, Eq)]
@@ -20,6 +21,19 @@ impl Work {
     /// Whether it is to read this page, or to write it out.
     pub(super) fn has_page(self, page: u64) -> bool {
         matches!(self, Work::Pages(first, count) if page >= first && page - first < count)
+    }
+}
+
+/// When a call first had to wait: all that it waits for in a function of the engine has one end.
+#[derive(Default)]
+pub(super) struct Waited(Cell<Option<Instant>>);
+
+impl Waited {
+    /// Returns what is left of so long a time since then. None where nothing is.
+    pub(super) fn left(&self, most: Duration) -> Option<Duration> {
+        let since = self.0.get().unwrap_or_else(Instant::now);
+        self.0.set(Some(since));
+        most.checked_sub(since.elapsed()).filter(|it| !it.is_zero())
     }
 }
 

@@ -3,7 +3,7 @@ use super::guards::PageRef;
 use super::pager::SharedPager;
 use super::part::{FEW_PAGES, Part};
 use super::seats::list_of;
-use super::within::{self, Work};
+use super::within::{self, Waited, Work};
 use super::work::Writing;
 use crate::image::Image;
 use crate::{Error, PageIo, PagerError, Result, UnsavedPage};
@@ -205,7 +205,7 @@ impl<F: PageIo> SharedPager<F> {
     fn take_out(&self, page: u64) -> Result<Option<(u64, Writing<'_>)>, PagerError> {
         let (part, own) = self.place(page)?;
         let mut latch: Option<PageRef<'_>> = None;
-        let mut rounds = 0;
+        let (mut rounds, waited) = (0, Waited::default());
         loop {
             let mut state = part.with_image(part.lock())?;
             let Some(number) = part.unsaved_seat(&state, own) else {
@@ -214,7 +214,7 @@ impl<F: PageIo> SharedPager<F> {
             // A page is written out between the writes of its writers, and not within them. They write
             // under the lock: so where nobody has the page now, no latch is needed for its image.
             if latch.is_none() && (rounds >= MOST_ROUNDS || part.is_written(number)) {
-                latch = Some(part.pin_under(state, own)?.into_read()?);
+                latch = Some(part.pin_under(state, own)?.into_read(&waited)?);
                 continue;
             }
             match part.ask_out(&mut state, own) {
@@ -235,7 +235,7 @@ impl<F: PageIo> SharedPager<F> {
                     // Without the latch the next round waits for that work.
                     rounds = 0;
                 }
-                Err(Error::Busy) => drop(part.wait_for_work(state, own)?),
+                Err(Error::Busy) => drop(part.wait_for_work(state, own, &waited)?),
                 Ok(None) => return Ok(None),
                 Err(error) => return Err(error.into()),
             }

@@ -1,12 +1,12 @@
 //! A function of the engine calls the pager. Where the call would wait for that function it is
 //! refused.
 use crate::device::{Asked, Device, Watch, config, fault, pager, put};
-use hojzmated::{Error, PagePin, PagerError, ReadFault, SharedConfig, SharedPager};
+use hojzmated::{Error, PageIo, PagePin, PagerError, ReadFault, SharedConfig, SharedPager};
 use std::panic::{AssertUnwindSafe, catch_unwind};
 use std::sync::atomic::{AtomicBool, AtomicUsize, Ordering};
-use std::sync::{Arc, Barrier};
-use std::thread;
-use std::time::Duration;
+use std::sync::{Arc, Barrier, Mutex, OnceLock, Weak};
+use std::time::{Duration, Instant};
+use std::{io, thread};
 
 type Shared = Arc<SharedPager<Device>>;
 
@@ -174,4 +174,85 @@ fn latch_that_comes_free() {
         other.put(0, &[6], 0).unwrap();
         drop(other);
     });
+}
+
+/// A device with many pages. The first reads of pages 8 and 16 are under way at once, and each wants the other page:
+/// the pages, what these calls were told, and how long they waited. Another read takes a millisecond.
+struct Crossed {
+    pager: OnceLock<Weak<SharedPager<Crossed>>>,
+    have_begun: Barrier,
+    come: [AtomicBool; 2],
+    told: Mutex<Vec<(u64, Option<Error>, Duration)>>,
+}
+
+impl PageIo for Crossed {
+    fn read_page(&self, page: u64, image: &mut [u8]) -> Result<(), ReadFault> {
+        image.fill(0);
+        let Some(place) = [8, 16].iter().position(|it| *it == page) else {
+            thread::sleep(Duration::from_millis(1));
+            return Ok(());
+        };
+        if self.come[place].swap(true, Ordering::Relaxed) {
+            return Ok(());
+        }
+        self.have_begun.wait();
+        let pager = self.pager.get().unwrap().upgrade().unwrap();
+        let began = Instant::now();
+        let told = pager.read(24 - page).map(drop).map_err(|it| it.refusal());
+        let noted = (page, told.err(), began.elapsed());
+        self.told.lock().unwrap().push(noted);
+        Ok(told.map_err(io::Error::other)?)
+    }
+
+    fn write_page(&self, _page: u64, _image: &mut [u8], _lsn: u64) -> io::Result<()> {
+        Ok(())
+    }
+
+    fn make_log_durable(&self, _lsn: u64) -> io::Result<()> {
+        Ok(())
+    }
+
+    fn sync(&self) -> io::Result<()> {
+        Ok(())
+    }
+}
+
+// Two reads want each other's page. Beside them other pages are read all the time, and the end of each such read may
+// wake them. They wait no longer for that.
+#[test]
+fn reads_that_want_each_other() {
+    let _watch = Watch::over("reads_that_want_each_other", 120);
+    let pin_wait = Duration::from_millis(200);
+    let config = SharedConfig {
+        pin_wait,
+        ..SharedConfig::with_parts(10_000, 64, 16, 1)
+    };
+    let crossed = Crossed {
+        pager: OnceLock::new(),
+        have_begun: Barrier::new(2),
+        come: Default::default(),
+        told: Mutex::default(),
+    };
+    let pager = &Arc::new(SharedPager::new(&config, crossed).unwrap());
+    pager.io().pager.set(Arc::downgrade(pager)).unwrap();
+    let (is_over, long) = (&AtomicBool::new(false), Duration::from_secs(20));
+    thread::scope(|threads| {
+        threads.spawn(move || {
+            let began = Instant::now();
+            let mut pages = (24..10_000).cycle();
+            while !is_over.load(Ordering::Relaxed) && began.elapsed() < 2 * long {
+                drop(pager.read(pages.next().unwrap()).unwrap());
+            }
+        });
+        let reads = [8, 16].map(|page| threads.spawn(move || pager.read(page).is_ok()));
+        let told = reads.map(|it| it.join().unwrap());
+        is_over.store(true, Ordering::Relaxed);
+        assert_ne!(told, [true; 2]);
+    });
+    let told = pager.io().told.lock().unwrap();
+    let refused = told.iter().filter(|it| it.1 == Some(Error::Busy));
+    assert_ne!(refused.clone().count(), 0);
+    for (page, _, waited) in refused {
+        assert!((pin_wait..long).contains(waited), "{page}: {waited:?}");
+    }
 }
