@@ -71,14 +71,15 @@ impl Ahead {
         (0..count).for_each(|_| self.comes.notify_one());
     }
 
-    /// Waits for pages to read: the first of a row, and how many there are side by side. It is None
-    /// where the calling thread is to end. What comes too late is left out.
+    /// Waits for pages to read, and puts those of them into the row, which has room, that are side by side. It returns false where the calling thread is to end. What comes too late is left out.
     fn next(
         &self,
         most: usize,
+        row: &mut Vec<Want>,
         is_over: &AtomicBool,
         is_late: impl Fn(Want) -> bool,
-    ) -> Option<(u64, usize)> {
+    ) -> bool {
+        row.clear();
         let mut wanted = self.lock();
         loop {
             if is_over.load(Ordering::Relaxed) {
@@ -88,24 +89,24 @@ impl Ahead {
                 }
                 // It may have been woken in another's place.
                 self.wake_for_the_rest(wanted);
-                return None;
+                return false;
             }
             if let Some(first) = wanted.pages.pop_front() {
                 if is_late(first) {
                     continue;
                 }
-                let first = first.page;
-                let mut end = first + 1;
-                while end - first < most as u64 {
+                row.push(first);
+                while row.len() < most {
+                    let end = first.page + row.len() as u64;
                     let next = wanted.pages.front().filter(|it| it.page == end);
-                    if next.is_none_or(|it| is_late(*it)) {
+                    let Some(next) = next.copied().filter(|it| !is_late(*it)) else {
                         break;
-                    }
+                    };
                     wanted.pages.pop_front();
-                    end += 1;
+                    row.push(next);
                 }
                 self.wake_for_the_rest(wanted);
-                return Some((first, (end - first) as usize));
+                return true;
             }
             wanted.sleeping += 1;
             let waited = self.comes.wait(wanted);
@@ -195,8 +196,9 @@ impl<F: PageIo + Send + Sync + 'static> SharedPager<F> {
         for _ in 0..count {
             let (pager, is_over) = (Arc::clone(self), Arc::clone(&is_over));
             let name = thread::Builder::new().name("hojzmated-reader".into());
+            let row = list_of(most).map_err(|_| io::ErrorKind::OutOfMemory)?;
             self.ahead.lock().readers += 1;
-            match name.spawn(move || pager.read_wanted(&is_over, most)) {
+            match name.spawn(move || pager.read_wanted(&is_over, most, row)) {
                 Ok(thread) => readers.threads.push(thread),
                 Err(error) => {
                     self.ahead.lock().readers -= 1;
@@ -207,18 +209,18 @@ impl<F: PageIo + Send + Sync + 'static> SharedPager<F> {
         Ok(readers)
     }
 
-    fn read_wanted(&self, is_over: &AtomicBool, most: usize) {
+    fn read_wanted(&self, is_over: &AtomicBool, most: usize, mut row: Vec<Want>) {
         let mut images = Image::default();
         let is_late = |it: Want| {
             let place = self.place(it.page);
             place.is_ok_and(|(part, own)| part.seats.noted(own) != it.noted)
         };
-        while let Some((first, count)) = self.ahead.next(most, is_over, is_late) {
+        while self.ahead.next(most, &mut row, is_over, is_late) {
             if images.is_empty() {
                 // Without memory the pages are left to who asks for them.
                 images = Image::zeros(most * self.config().page_size).unwrap_or_default();
             }
-            let read = || self.read_row(first, count, &mut images);
+            let read = || self.read_row(&row, &mut images);
             // The engine's code may panic, and is called again all the same.
             let _ = catch_unwind(AssertUnwindSafe(read));
         }
@@ -262,10 +264,11 @@ enum Began<'a> {
 }
 
 impl Part {
-    /// Asks for a page that is to be read ahead, if it is away. The caller has tickets or none.
-    fn begin_ahead(&self, page: u64, has_tickets: bool) -> Result<Began<'_>> {
+    /// Asks for a page that is to be read ahead, if it is away, and was all the time since that was noted of
+    /// it. The caller has tickets or none.
+    fn begin_ahead(&self, page: u64, noted: u32, has_tickets: bool) -> Result<Began<'_>> {
         let mut state = self.with_image(self.lock())?;
-        if self.seats.of(page).is_some() {
+        if self.seats.of(page).is_some() || self.seats.noted(page) != noted {
             return Ok(Began::Not);
         }
         self.make_way(&mut state, PASSES);
@@ -298,47 +301,45 @@ impl Part {
 
 impl<F: PageIo> SharedPager<F> {
     /// Reads pages side by side ahead, as many at a time as can be begun without device work between.
-    fn read_row(&self, first: u64, count: usize, images: &mut [u8]) {
-        let end = first + count as u64;
-        let mut next = first;
-        while next < end && !images.is_empty() {
-            let Ok(mut row) = list_of(count) else {
+    fn read_row(&self, mut wants: &[Want], images: &mut [u8]) {
+        while !wants.is_empty() && !images.is_empty() {
+            let Ok(mut row) = list_of(wants.len()) else {
                 return;
             };
-            let begin = self.begin_row(next, end, &mut row);
-            next = begin + row.len().max(1) as u64;
-            if !row.is_empty() {
-                self.read_begun(begin, row, images);
+            wants = self.begin_row(wants, &mut row);
+            let count = row.len();
+            if let Some(first) = wants.first().filter(|_| count > 0) {
+                self.read_begun(first.page, row, images);
             }
+            // The first one is left out where it could not be begun.
+            wants = wants.get(count.max(1)..).unwrap_or_default();
         }
     }
 
-    /// Begins to read pages that are side by side and away, from a number on, and returns the first.
-    fn begin_row<'a>(&'a self, mut next: u64, end: u64, row: &mut Vec<Reading<'a>>) -> u64 {
-        let mut begin = next;
-        while next < end {
-            let Ok((part, own)) = self.place(next) else {
+    /// Begins to read pages that are side by side and away, and returns those that are left from the first
+    /// of these on.
+    fn begin_row<'a, 'w>(
+        &'a self,
+        mut wants: &'w [Want],
+        row: &mut Vec<Reading<'a>>,
+    ) -> &'w [Want] {
+        while let Some(want) = wants.get(row.len()) {
+            let Ok((part, own)) = self.place(want.page) else {
                 break;
             };
-            match part.begin_ahead(own, !row.is_empty()) {
-                Ok(Began::Reads(reading)) => {
-                    row.push(reading);
-                    next += 1;
-                }
+            match part.begin_ahead(own, want.noted, !row.is_empty()) {
+                Ok(Began::Reads(reading)) => row.push(reading),
                 Ok(Began::Writes(lsn, writing)) => {
                     let victim = part.in_file(writing.page().unwrap_or_default());
                     if self.write_out(victim, lsn, writing).is_err() {
                         break;
                     }
                 }
-                Ok(Began::Not) if row.is_empty() => {
-                    next += 1;
-                    begin = next;
-                }
+                Ok(Began::Not) if row.is_empty() => wants = &wants[1..],
                 Ok(Began::Not | Began::WouldWrite) | Err(_) => break,
             }
         }
-        begin
+        wants
     }
 
     /// Reads pages whose reads were begun. On every way out all of these end.

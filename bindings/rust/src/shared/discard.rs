@@ -78,6 +78,26 @@ impl Part {
         }
     }
 
+    /// Has a page leave its frame that was read ahead and that nobody has used, since it is made anew: what the
+    /// device has of it is of no use.
+    pub(super) fn drop_ahead(&self, state: &mut State, own: u64) {
+        let Some(number) = self.seats.of(own) else {
+            return;
+        };
+        let seat = self.seats.seat(number);
+        if seat.word().is_out() {
+            self.count_under(state, number);
+        }
+        // Once its pass is not out, each use of it is seen.
+        if state.kept.is_ahead(number)
+            && self.let_go(state, own)
+            && !seat.is_touched()
+            && state.pool.discard(0, own).is_ok()
+        {
+            self.forget_under(state, own, number);
+        }
+    }
+
     /// Gives the pass of a page back if it is out and nobody uses the page. It returns true if it is
     /// not out then.
     fn let_go(&self, state: &mut State, own: u64) -> bool {
@@ -94,10 +114,15 @@ impl Part {
             self.seats.set_unknown(own, now);
             return;
         };
+        self.forget_under(&mut state, own, seat);
+        drop(state);
+        self.wake_for_frame();
+    }
+
+    /// Takes the seat back of a page that was discarded.
+    fn forget_under(&self, state: &mut State, own: u64, seat: usize) {
         state.firsts.leave(seat);
         let now = state.now;
         state.free.take_discarded(&self.seats, own, seat, now);
-        drop(state);
-        self.wake_for_frame();
     }
 }

@@ -74,6 +74,11 @@ impl Kept {
         self.stamps[seat].is_ahead = is_ahead;
     }
 
+    /// Whether it was, and was not used since, as far as that was counted.
+    pub(super) fn is_ahead(&self, seat: usize) -> bool {
+        self.stamps[seat].is_ahead
+    }
+
     /// Returns whether it was, and notes that it was used.
     pub(super) fn take_ahead(&mut self, seat: usize) -> bool {
         std::mem::take(&mut self.stamps[seat].is_ahead)

@@ -406,7 +406,8 @@ impl<F: PageIo> SharedPager<F> {
     }
 
     /// Returns a page that was never written under its exclusive latch: its bytes are zeros, and it
-    /// is not read. If it is in a frame, it is as it is there.
+    /// is not read. If it is in a frame, it is as it is there: but where it was
+    /// [read ahead](SharedPager::prefetch) alone, and nobody used it, it leaves that frame and is zeros too.
     ///
     /// Put something there: until then the pager counts the page as saved, and it may leave its
     /// frame without being written out.
@@ -421,7 +422,9 @@ impl<F: PageIo> SharedPager<F> {
     fn latched_alone(&self, page: u64, asked: Asked) -> Result<PageMut<'_>, PagerError> {
         let (part, own) = self.place(page)?;
         let waited = Waited::default();
-        let pin = match part.join(own) {
+        // A pin would be a use of the page, which is not to be used as it is where it was read ahead.
+        let joined = if asked.is_new { None } else { part.join(own) };
+        let pin = match joined {
             Some(pin) => pin,
             None => self.fix(part, own, asked, &waited)?,
         };
@@ -451,6 +454,9 @@ impl<F: PageIo> SharedPager<F> {
         waited: &Waited,
     ) -> Result<PagePin<'a>, PagerError> {
         let mut state = part.with_image(part.lock())?;
+        if asked.is_new {
+            part.drop_ahead(&mut state, own);
+        }
         if let Some(seat) = part.seats.out(own) {
             return Ok(part.join_under(state, seat)?);
         }
@@ -503,6 +509,9 @@ impl<F: PageIo> SharedPager<F> {
                 Err(error) => return Err(error.into()),
             };
             state = part.with_image(state)?;
+            if asked.is_new {
+                part.drop_ahead(&mut state, own);
+            }
             fixed = part.ask(&mut state, own);
         }
     }

@@ -191,29 +191,50 @@ impl Part {
         state.kept.put(number, state.now.saturating_add(period));
     }
 
-    /// Pins the page of a pass that was just given, and notes how it came to be in its frame.
+    /// Pins the page of a pass that was just given, and notes how it came to be in its frame. The lock is opened.
     #[inline]
-    pub(super) fn pinned(
-        &self,
-        mut state: Locked<'_>,
+    pub(super) fn pinned<'a>(
+        &'a self,
+        mut state: Locked<'a>,
         pass: Pass,
         came: Came,
-    ) -> Result<PagePin<'_>> {
-        let page = pass.page();
-        let (Some(number), Ok(bytes)) = (self.seats.of(page), state.pool.place(&pass)) else {
-            // This can't be: the page is in a frame, and its pass is out.
+    ) -> Result<PagePin<'a>> {
+        let number = self.seats.of(pass.page());
+        if let Some(number) = number.filter(|it| self.seats.seat(*it).word().is_out()) {
+            // All pins of a page share one pass.
+            let now = state.now;
+            state.kept.refer(number, now);
             let _ = state.pool.unfix_by(&pass);
+            return self.add_pin(state, self.seats.seat(number), Seat::add_pin);
+        }
+        let seat = self.begin(&mut state, &pass, came)?;
+        drop(state);
+        // SAFETY: the pass is out, and the pin in the word.
+        Ok(PagePin::new(unsafe { Share::new(self, seat) }))
+    }
+
+    /// Has the pass out of a page that was just read ahead. While the lock was open nobody has seen a pin of it.
+    pub(super) fn keep_ahead(&self, state: &mut State, pass: &Pass) -> Result<()> {
+        let seat = self.begin(state, pass, Came::Ahead)?;
+        let left = seat.leave(PIN);
+        if left.is_awaited() {
+            self.hand_over(seat);
+        }
+        self.end_use(state, seat);
+        Ok(())
+    }
+
+    /// Has a pass out that was just given, with a pin, and notes how its page came to be in its frame.
+    fn begin(&self, state: &mut State, pass: &Pass, came: Came) -> Result<&Seat> {
+        let page = pass.page();
+        let (Some(number), Ok(bytes)) = (self.seats.of(page), state.pool.place(pass)) else {
+            // This can't be: the page is in a frame, and its pass is out.
+            let _ = state.pool.unfix_by(pass);
             return Err(Error::UnknownPass);
         };
-        let seat = self.seats.seat(number);
-        let now = state.now;
-        state.kept.refer(number, now);
-        if seat.word().is_out() {
-            // All pins of a page share one pass.
-            let _ = state.pool.unfix_by(&pass);
-            return self.add_pin(state, seat, Seat::add_pin);
-        }
+        let (seat, now) = (self.seats.seat(number), state.now);
         let (bytes, serial) = (bytes.cast(), pass.serial());
+        state.kept.refer(number, now);
         state.places.note(bytes);
         let stays = match came {
             Came::Here => self.keeps,
@@ -221,16 +242,15 @@ impl Part {
             Came::Ahead => !self.tells_each,
         };
         state.kept.set_ahead(number, came == Came::Ahead);
-        seat.begin(page, &Pinned { bytes, serial }, now, stays);
+        let touched = if came == Came::Ahead { 0 } else { now };
+        seat.begin(page, &Pinned { bytes, serial }, touched, stays);
         if !self.tells_each {
             self.seats.set_out(page, number, true);
         }
         if stays {
-            self.keep(&mut state, number, came);
+            self.keep(state, number, came);
         }
-        drop(state);
-        // SAFETY: the pass is out, and the pin in the word.
-        Ok(PagePin::new(unsafe { Share::new(self, seat) }))
+        Ok(seat)
     }
 
     /// Pins a page whose pass is out, without asking the pool. The lock is opened.
@@ -302,13 +322,17 @@ impl Part {
     /// clock moves on by their number. They are one reference, if the newest of them is: with the
     /// one before it, if it came within the correlated period. The first use of a page that was read
     /// ahead is the one for which it was read: the reference and the tick were had then.
-    fn count_under(&self, state: &mut State, number: usize) {
+    pub(super) fn count_under(&self, state: &mut State, number: usize) {
         let seat = self.seats.seat(number);
         if seat.word().joins() == 0 {
             return;
         }
         let joins = seat.take_joins();
         state.joined += joins;
+        if !seat.is_touched() {
+            // They took the seat for that of another page, or are about to note that.
+            return;
+        }
         let (last, period) = (state.kept.newest(number), state.pool.config().correlated);
         let is_new = seat.touched().saturating_sub(last) > period || period == 0;
         let was_ahead = state.kept.take_ahead(number);

@@ -61,7 +61,8 @@ pub(super) struct Seat {
     page: AtomicU64,
     bytes: AtomicPtr<u8>,
     serial: AtomicU64,
-    /// What the part's clock was when the page was pinned without the lock.
+    /// What the part's clock was when the page was pinned without the lock. 0 where it was read ahead, until its
+    /// first use.
     touched: AtomicU64,
 }
 
@@ -229,16 +230,21 @@ impl Seat {
         self.touched.load(Ordering::Relaxed)
     }
 
+    /// Whether the page was pinned, and not only read ahead.
+    pub(super) fn is_touched(&self) -> bool {
+        self.touched() != 0
+    }
+
     /// Notes that the pass of a page is out, and makes a pin, under the part's lock. Threads that
     /// took the seat for that of another page may be in the word for a moment.
     #[inline]
-    pub(super) fn begin(&self, page: u64, pinned: &Pinned, now: u64, stays: bool) {
+    pub(super) fn begin(&self, page: u64, pinned: &Pinned, touched: u64, stays: bool) {
         // Relaxed: the step below makes them seen.
         // step: Keeper::try_begin
         self.page.store(page, Ordering::Relaxed);
         self.bytes.store(pinned.bytes.cast_mut(), Ordering::Relaxed);
         self.serial.store(pinned.serial, Ordering::Relaxed);
-        self.touched.store(now, Ordering::Relaxed);
+        self.touched.store(touched, Ordering::Relaxed);
         // Release: who finds that it is out sees all this.
         // step: Keeper::try_begin
         let _ = self.change(Ordering::Release, |word| Some(Word(word).with_pass(stays)));

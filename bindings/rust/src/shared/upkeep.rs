@@ -18,7 +18,8 @@ use std::{io, mem};
 pub struct Stats {
     /// The counts since the pager was made, approximately. A pin of a page that was pinned already
     /// is a hit, which may be counted only when the page is unpinned. A new page is counted as a
-    /// read, and a victim that could not be written out as a hit.
+    /// read, and also as discarded where it had been read ahead; a victim that could not be written out as a
+    /// hit.
     pub totals: Totals,
     /// Pages that are in frames.
     pub resident: usize,

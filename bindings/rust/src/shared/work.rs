@@ -3,7 +3,7 @@ use super::guards::PagePin;
 use super::part::{Locked, Part};
 use super::pins::Came;
 use crate::image::Image;
-use crate::{Error, PageGuard, ReadFault, ReadTicket, Refused, Result, WriteTicket};
+use crate::{Error, PageGuard, Pass, ReadFault, ReadTicket, Refused, Result, WriteTicket};
 use std::mem;
 
 /// A read that is under way. If it is dropped before its end it ends as failed, also where the
@@ -39,16 +39,28 @@ impl<'a> Reading<'a> {
 
     /// Ends the read where it succeeded, and pins the page.
     pub(super) fn end(mut self) -> Result<PagePin<'a>> {
-        self.end_with(None, Came::Read)
+        let part = self.part;
+        let (state, pass) = self.end_with(None)?;
+        let page = pass.page();
+        let has_sleepers = state.has_sleepers(page);
+        let pin = part.pinned(state, pass, Came::Read);
+        part.wake_for_work(page, has_sleepers);
+        pin
     }
 
     /// Ends a read ahead, where it succeeded, with its image. The page is not pinned, but its pass
     /// stays out until it was used, or has to make way.
     pub(super) fn end_ahead(mut self, image: &[u8]) -> Result<()> {
-        self.end_with(Some(image), Came::Ahead).map(drop)
+        let part = self.part;
+        let (mut state, pass) = self.end_with(Some(image))?;
+        let page = pass.page();
+        let kept = part.keep_ahead(&mut state, &pass);
+        part.wake(state, page);
+        kept
     }
 
-    fn end_with(&mut self, other: Option<&[u8]>, came: Came) -> Result<PagePin<'a>> {
+    /// Ends the read, with the image or with another one, and returns the part, locked, and the pass of the page.
+    fn end_with(&mut self, other: Option<&[u8]>) -> Result<(Locked<'a>, Pass)> {
         let ticket = self.ticket.take().ok_or(Error::UnknownTicket)?;
         let part = self.part;
         let mut state = part.lock();
@@ -61,13 +73,9 @@ impl<'a> Reading<'a> {
                 return Err(error);
             }
         };
-        let page = pass.page();
-        state.free.give(&part.seats, page);
+        state.free.give(&part.seats, pass.page());
         self.image = state.keep(mem::take(&mut self.image)).unwrap_or_default();
-        let has_sleepers = state.has_sleepers(page);
-        let pin = part.pinned(state, pass, came);
-        part.wake_for_work(page, has_sleepers);
-        pin
+        Ok((state, pass))
     }
 
     pub(super) fn fail_with_wrong_page(&mut self) {

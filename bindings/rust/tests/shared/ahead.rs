@@ -129,6 +129,119 @@ fn page_that_was_discarded() {
     assert_eq!(pager.io().asked(), [1, 5, 6].map(Asked::Read));
 }
 
+// All frames are dirty, so a page is written out before the row is read. Meanwhile page 12 of the row is made, and
+// discarded. It is not read, and is zeros when it is made again.
+#[test]
+fn page_of_a_row_that_came_and_went() {
+    let pager = Arc::new(SharedPager::new(&config(6), Rows::default()).unwrap());
+    pager.io().device.pages.lock().unwrap()[12] = [0xaa; SIZE];
+    for page in 0..6 {
+        pager.write(page).unwrap().put(0, &[1], 0).unwrap();
+    }
+    let (gate, is_first) = (Arc::new(Gate::default()), AtomicBool::new(true));
+    let device = Arc::clone(&gate);
+    pager.io().device.within(move |asked| {
+        if matches!(asked, Asked::Write(..)) && is_first.swap(false, Ordering::Relaxed) {
+            device.pass();
+        }
+    });
+    let readers = pager.start_readers(1).unwrap();
+    assert_eq!(pager.prefetch(10..14), 4);
+    gate.wait_for(1);
+    drop(pager.new_page(12).unwrap());
+    assert!(pager.discard(12).unwrap());
+    gate.open();
+    wait_for(&pager, [10, 11, 13]);
+    drop(readers);
+    let rows = pager.io().rows.lock().unwrap().clone();
+    let in_a_row = rows
+        .iter()
+        .flat_map(|(first, count)| *first..first + *count as u64);
+    let alone = pager.io().device.asked().into_iter();
+    let alone = alone.filter_map(|asked| match asked {
+        Asked::Read(page) if page >= 10 => Some(page),
+        _ => None,
+    });
+    let mut read: Vec<_> = in_a_row.chain(alone).collect();
+    read.sort_unstable();
+    assert_eq!(read, [10, 11, 13]);
+    assert_eq!(*pager.new_page(12).unwrap().bytes(), [0; SIZE]);
+}
+
+/// Pagers in which page 3 has other bytes on the device, with and without a correlated period.
+fn pagers_with_old_bytes() -> impl Iterator<Item = Shared> {
+    let periods = [(0, false), (4, false), (4, true)];
+    periods.into_iter().map(|(correlated, tells_each_pin)| {
+        let config = SharedConfig {
+            correlated,
+            tells_each_pin,
+            ..config(4)
+        };
+        let pager = SharedPager::new(&config, Device::default()).unwrap();
+        pager.io().pages.lock().unwrap()[3] = [0xaa; SIZE];
+        Arc::new(pager)
+    })
+}
+
+// A page that is made new is zeros where it was read ahead, and where it is just read ahead. But one that somebody
+// has looked at is as it is in its frame.
+#[test]
+fn new_page_that_was_read_ahead() {
+    for pager in pagers_with_old_bytes() {
+        let _readers = pager.start_readers(1).unwrap();
+        assert_eq!(pager.prefetch([3]), 1);
+        wait_for(&pager, [3]);
+        assert_eq!(*pager.new_page(3).unwrap().bytes(), [0; SIZE]);
+        assert_eq!(pager.read(3).unwrap()[0], 0);
+        assert!(pager.discard(3).unwrap());
+        assert_eq!(pager.prefetch([3]), 1);
+        wait_for(&pager, [3]);
+        assert_eq!(pager.read(3).unwrap()[0], 0xaa);
+        assert_eq!(*pager.new_page(3).unwrap().bytes(), [0xaa; SIZE]);
+        assert_eq!(pager.stats().pinned, 0);
+    }
+}
+
+#[test]
+fn new_page_that_is_being_read_ahead() {
+    for pager in pagers_with_old_bytes() {
+        let gate = Arc::new(Gate::default());
+        let device = Arc::clone(&gate);
+        pager.io().within(move |_| device.pass());
+        let _readers = pager.start_readers(1).unwrap();
+        assert_eq!(pager.prefetch([3]), 1);
+        gate.wait_for(1);
+        thread::scope(|threads| {
+            let new = threads.spawn(|| pager.new_page(3).unwrap().bytes().to_vec());
+            wait_until(|| pager.stats().waits > 0);
+            gate.open();
+            assert_eq!(new.join().unwrap(), [0; SIZE]);
+        });
+    }
+}
+
+// The same at any moment of the read ahead.
+#[test]
+fn new_pages_beside_reads_ahead() {
+    let _watch = Watch::over("new_pages_beside_reads_ahead", 300);
+    for pager in pagers_with_old_bytes() {
+        let readers = pager.start_readers(2).unwrap();
+        for turn in 0..2_000 {
+            pager.prefetch([3]);
+            for _ in 0..turn % 64 * 16 {
+                std::hint::spin_loop();
+            }
+            let mut page = pager.new_page(3).unwrap();
+            assert_eq!(*page.bytes(), [0; SIZE]);
+            page.put(0, &[1], 0).unwrap();
+            drop(page);
+            pager.discard(3).unwrap();
+        }
+        drop(readers);
+        assert_eq!(pager.stats().pinned, 0);
+    }
+}
+
 // Without threads for it nothing is read. Pages in frames, and those that the file does not have, are
 // left out.
 #[test]
