@@ -1,9 +1,12 @@
 //! The threads that wait for latches of a part's pages, and who of them is next.
+use super::part::Part;
 use super::seats::{Seat, filled};
-use super::word::WRITER;
-use std::mem;
+use super::within::Waited;
+use super::word::{PIN, WRITER};
+use crate::{Error, Result};
 use std::sync::{Condvar, Mutex, MutexGuard, PoisonError};
 use std::time::{Duration, Instant};
+use std::{mem, thread};
 
 /// The number of places at which threads sleep. Threads that wait for different turns may share
 /// one, and then are woken in vain.
@@ -11,6 +14,9 @@ const PLACES: usize = 32;
 
 /// So long a writer has been next, while no reader waits, before the latch is handed over to it.
 const PATIENCE: Duration = Duration::from_micros(500);
+
+/// How long a thread rests between two looks at a latch for which it may not queue.
+const REST: Duration = Duration::from_micros(200);
 
 /// The queues for the latches of a part's pages. Who lets a latch go calls those who are next, and no
 /// others.
@@ -90,7 +96,7 @@ impl Queue {
 }
 
 impl Queues {
-    pub(super) fn new(seats: usize) -> crate::Result<Queues> {
+    pub(super) fn new(seats: usize) -> Result<Queues> {
         let of_seats = filled(seats)?.into_boxed_slice();
         Ok(Queues {
             state: Mutex::new(State { of_seats, waits: 0 }),
@@ -119,7 +125,7 @@ impl Queues {
     ///
     /// # Errors
     /// Those of [`Seat::latch_or_queue`].
-    pub(super) fn wait(&self, seat: &Seat, number: usize, latch: u64) -> crate::Result<()> {
+    pub(super) fn wait(&self, seat: &Seat, number: usize, latch: u64) -> Result<()> {
         let mut state = self.lock();
         let Some(before) = seat.latch_or_queue(latch)? else {
             return Ok(());
@@ -196,5 +202,70 @@ impl Queues {
         };
         drop(state);
         place.notify_all();
+    }
+}
+
+impl Part {
+    /// Waits for a latch, beside a pin.
+    ///
+    /// # Errors
+    /// [`Error::Busy`] in a function of the engine, where it waits for the pin wait at most;
+    /// [`Error::TooManyGuards`].
+    #[inline]
+    pub(super) fn take_latch(&self, seat: &Seat, latch: u64) -> Result<()> {
+        if seat.try_latch(latch, 0) {
+            return Ok(());
+        }
+        self.wait_for_latch(seat, latch, 0, &Waited::default())
+    }
+
+    /// Waits for a latch in place of a pin, as the last step of a call.
+    ///
+    /// # Errors
+    /// The same, where the call waits for the pin wait at most in all.
+    #[inline]
+    pub(super) fn turn_pin(&self, seat: &Seat, latch: u64, waited: &Waited) -> Result<()> {
+        if seat.try_latch(latch, PIN) {
+            return Ok(());
+        }
+        self.wait_for_latch(seat, latch, PIN, waited)
+    }
+
+    #[cold]
+    fn wait_for_latch(
+        &self,
+        seat: &Seat,
+        latch: u64,
+        in_place_of: u64,
+        waited: &Waited,
+    ) -> Result<()> {
+        if seat.latch_soon(latch, in_place_of) {
+            return Ok(());
+        }
+        if self.is_within() {
+            // A thread that has the latch may wait for this one: so it does not queue.
+            while !seat.try_latch(latch, in_place_of) {
+                let left = waited.left(self.pin_wait).ok_or(Error::Busy)?;
+                thread::sleep(REST.min(left));
+            }
+            return Ok(());
+        }
+        let number = self.seats.number_of(seat);
+        self.queues().wait(seat, number, latch)?;
+        if in_place_of > 0 {
+            seat.leave(in_place_of);
+        }
+        Ok(())
+    }
+
+    /// The number of times that a thread waited for a latch.
+    pub(super) fn latch_waits(&self) -> u64 {
+        self.queues().waits()
+    }
+
+    /// Gives the latch of a seat's page to the threads that are next.
+    pub(super) fn hand_over(&self, seat: &Seat) {
+        let number = self.seats.number_of(seat);
+        self.queues().hand_over(seat, number);
     }
 }

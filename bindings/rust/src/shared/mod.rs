@@ -3,6 +3,7 @@ mod ahead;
 mod away;
 mod config;
 mod discard;
+mod faults;
 mod firsts;
 mod guards;
 mod kept;

@@ -137,7 +137,9 @@ use std::time::{Duration, Instant};
 ///
 /// # Where a call fails
 /// Nothing is lost where the device or the log fails or panics: the page that was to be read is in
-/// no frame, and the one that was to be written out is unsaved. Other pages can be used: a victim
+/// no frame, and the one that was to be written out is unsaved. Where a read fails, the threads that
+/// waited for the page as that read began have a fault of the same kind, text and number; who comes later has
+/// the page read anew. Other pages can be used: a victim
 /// that could not be written out counts as used just then, so a later call chooses another: the next
 /// one, or with a correlated period of 0 one after up to K such calls. Where the pager is dropped, pages that were not written out are lost.
 pub struct SharedPager<F> {
@@ -503,7 +505,12 @@ impl<F: PageIo> SharedPager<F> {
                 }
                 Err(Error::Busy) => {
                     patience.has_aged = false;
-                    part.wait_for_work(state, own, waited)?
+                    let (locked, fault) = part.wait_for_read(state, own, waited)?;
+                    if let Some(fault) = fault.filter(|_| !asked.is_new) {
+                        drop(locked);
+                        return Err(fault.of_page(part.in_file(own)));
+                    }
+                    locked
                 }
                 Err(Error::NoVictim) => patience.make_way(state)?,
                 Err(error) => return Err(error.into()),
@@ -534,10 +541,12 @@ impl<F: PageIo> SharedPager<F> {
         };
         match read {
             Ok(()) => Ok(reading.end()?),
-            Err(ReadFault::Device(source)) => Err(PagerError::Read { page, source }),
-            Err(ReadFault::WrongPage) => {
-                reading.fail_with_wrong_page();
-                Err(PagerError::WrongPage { page })
+            Err(fault) => {
+                reading.fail(&fault);
+                Err(match fault {
+                    ReadFault::Device(source) => PagerError::Read { page, source },
+                    ReadFault::WrongPage => PagerError::WrongPage { page },
+                })
             }
         }
     }

@@ -1,13 +1,13 @@
 //! A part: one proved pool under a lock, with what its pins, latches and waiting threads need.
 use super::SharedConfig;
 use super::away::Away;
+use super::faults::{Fault, Faults};
 use super::firsts::Firsts;
 use super::kept::Kept;
 use super::latch::Queues;
 use super::places::Places;
 use super::seats::{FreeSeats, Seat, Seats, filled, list_of};
 use super::within::{self, Waited};
-use super::word::PIN;
 use crate::image::Image;
 use crate::{
     Config, Error, Fixed, Flushed, Pass, Pool, ReadTicket, Result, UnsavedPage, WriteTicket,
@@ -17,7 +17,6 @@ use std::mem;
 use std::ops::Range;
 use std::sync::atomic::{AtomicU64, AtomicUsize, Ordering};
 use std::sync::{Condvar, Mutex, MutexGuard, PoisonError, TryLockError};
-use std::thread;
 use std::time::Duration;
 
 /// A proved pool under a lock, with the latches of the pages in its frames. It has cache lines of
@@ -48,7 +47,7 @@ pub(super) struct Part {
     pub(super) ahead: u64,
     /// The number of the pager.
     pager: u64,
-    pin_wait: Duration,
+    pub(super) pin_wait: Duration,
     locked: Apart,
 }
 
@@ -85,6 +84,7 @@ pub(super) struct State {
     pub(super) unused_ticks: u64,
     /// The number of threads at each place that sleep until the device work on their page has ended.
     for_work: [usize; PLACES],
+    pub(super) faults: Faults,
     /// The pins that were made without asking the pool, as far as they were counted; and the
     /// references that the pool was asked for afterwards, which are hits to it.
     pub(super) joined: u64,
@@ -114,7 +114,7 @@ const KEPT_IMAGES: usize = 4;
 const LOOKS: u32 = 12;
 /// The places at which threads sleep that wait for device work. Those that wait for different pages
 /// may share one, and then are woken in vain.
-const PLACES: usize = 8;
+pub(super) const PLACES: usize = 8;
 /// So many bytes are copied without the lock.
 const FEW: usize = 64;
 /// So many unsaved pages are looked at in one go under the lock.
@@ -122,8 +122,6 @@ pub(super) const FEW_PAGES: usize = 64;
 /// After so many ticks a part forgets what is too old. As each tick has one reference or so, that is no
 /// more than as many pages in one go: a few microseconds.
 const PURGE_TICKS: u64 = 16;
-/// How long a thread rests between two looks at a latch for which it may not queue.
-const REST: Duration = Duration::from_micros(200);
 
 impl Part {
     pub(super) fn new(config: &SharedConfig, number: usize, pager: u64) -> Result<Part> {
@@ -249,6 +247,21 @@ impl Part {
         Ok(state)
     }
 
+    /// The same until a read of the page has ended. It also returns the fault of one that failed, if that began
+    /// after this call came to wait and the page is not in a frame since.
+    pub(super) fn wait_for_read<'a>(
+        &self,
+        state: Locked<'a>,
+        page: u64,
+        waited: &Waited,
+    ) -> Result<(Locked<'a>, Option<Fault>)> {
+        let begun = waited.begun(state.faults.begun());
+        let state = self.wait_for_work(state, page, waited)?;
+        let is_away = self.seats.of(page).is_none();
+        let fault = is_away.then(|| state.faults.since(page, begun));
+        Ok((state, fault.flatten()))
+    }
+
     /// Sleeps until some page is unpinned, or for at most `most`. It does not where what is waited
     /// for has come: that is asked once other threads see that one waits.
     pub(super) fn wait_for_frame<'a>(
@@ -316,71 +329,13 @@ impl Part {
     }
 
     /// Whether this thread is in a function of the engine that the pager called.
-    fn is_within(&self) -> bool {
+    pub(super) fn is_within(&self) -> bool {
         within::is_within(self.pager, |_| true)
     }
 
-    /// Waits for a latch, beside a pin.
-    ///
-    /// # Errors
-    /// [`Error::Busy`] in a function of the engine, where it waits for the pin wait at most;
-    /// [`Error::TooManyGuards`].
-    #[inline]
-    pub(super) fn take_latch(&self, seat: &Seat, latch: u64) -> Result<()> {
-        if seat.try_latch(latch, 0) {
-            return Ok(());
-        }
-        self.wait_for_latch(seat, latch, 0, &Waited::default())
-    }
-
-    /// Waits for a latch in place of a pin, as the last step of a call.
-    ///
-    /// # Errors
-    /// The same, where the call waits for the pin wait at most in all.
-    #[inline]
-    pub(super) fn turn_pin(&self, seat: &Seat, latch: u64, waited: &Waited) -> Result<()> {
-        if seat.try_latch(latch, PIN) {
-            return Ok(());
-        }
-        self.wait_for_latch(seat, latch, PIN, waited)
-    }
-
-    #[cold]
-    fn wait_for_latch(
-        &self,
-        seat: &Seat,
-        latch: u64,
-        in_place_of: u64,
-        waited: &Waited,
-    ) -> Result<()> {
-        if seat.latch_soon(latch, in_place_of) {
-            return Ok(());
-        }
-        if self.is_within() {
-            // A thread that has the latch may wait for this one: so it does not queue.
-            while !seat.try_latch(latch, in_place_of) {
-                let left = waited.left(self.pin_wait).ok_or(Error::Busy)?;
-                thread::sleep(REST.min(left));
-            }
-            return Ok(());
-        }
-        let number = self.seats.number_of(seat);
-        self.locked.queues.wait(seat, number, latch)?;
-        if in_place_of > 0 {
-            seat.leave(in_place_of);
-        }
-        Ok(())
-    }
-
-    /// The number of times that a thread waited for a latch.
-    pub(super) fn latch_waits(&self) -> u64 {
-        self.locked.queues.waits()
-    }
-
-    /// Gives the latch of a seat's page to the threads that are next.
-    pub(super) fn hand_over(&self, seat: &Seat) {
-        let number = self.seats.number_of(seat);
-        self.locked.queues.hand_over(seat, number);
+    /// The queues for the latches of this part's pages.
+    pub(super) fn queues(&self) -> &Queues {
+        &self.locked.queues
     }
 
     #[inline]
@@ -723,7 +678,7 @@ pub(super) fn turn_of_power(row: u64, exponent: u32) -> u64 {
 const MIXER: u64 = 0x9e37_79b9_7f4a_7c15;
 
 /// Returns the place where threads sleep that wait for the device work on a page.
-fn place_of(page: u64) -> usize {
+pub(super) fn place_of(page: u64) -> usize {
     (page % PLACES as u64) as usize
 }
 
@@ -746,6 +701,7 @@ impl State {
             purge_at: config.retained.saturating_add(PURGE_TICKS),
             unused_ticks: 0,
             for_work: [0; PLACES],
+            faults: Faults::default(),
             joined: 0,
             referred: 0,
             waits: 0,

@@ -24,16 +24,27 @@ impl Work {
     }
 }
 
-/// When a call first had to wait: all that it waits for in a function of the engine has one end.
+/// When a call first had to wait.
 #[derive(Default)]
-pub(super) struct Waited(Cell<Option<Instant>>);
+pub(super) struct Waited {
+    since: Cell<Option<Instant>>,
+    begun: Cell<Option<u64>>,
+}
 
 impl Waited {
-    /// Returns what is left of so long a time since then. None where nothing is.
+    /// Returns what is left of so long a time since then. None where nothing is. So all that a call waits for
+    /// in a function of the engine has one end.
     pub(super) fn left(&self, most: Duration) -> Option<Duration> {
-        let since = self.0.get().unwrap_or_else(Instant::now);
-        self.0.set(Some(since));
+        let since = self.since.get().unwrap_or_else(Instant::now);
+        self.since.set(Some(since));
         most.checked_sub(since.elapsed()).filter(|it| !it.is_zero())
+    }
+
+    /// Returns how many reads of the part had begun when the call first waited for one, if that is now so many.
+    pub(super) fn begun(&self, now: u64) -> u64 {
+        let begun = self.begun.get().unwrap_or(now);
+        self.begun.set(Some(begun));
+        begun
     }
 }
 

@@ -1,4 +1,5 @@
 //! Device work that is under way: a read, and a write-out. On every way out it ends.
+use super::faults::Fault;
 use super::guards::PagePin;
 use super::part::{Locked, Part};
 use super::pins::Came;
@@ -12,8 +13,10 @@ pub(super) struct Reading<'a> {
     part: &'a Part,
     ticket: Option<ReadTicket>,
     pub(super) image: Image,
-    /// The fault with which it ends then.
-    fault: ReadFault,
+    /// Its number among the reads of the part, and the fault with which it ends then, for those that waited as it
+    /// began. A read ahead has none for them.
+    number: u64,
+    fault: Option<Fault>,
 }
 
 impl<'a> Reading<'a> {
@@ -22,7 +25,8 @@ impl<'a> Reading<'a> {
             part,
             ticket: Some(ticket),
             image: state.image(),
-            fault: ReadFault::Device(std::io::ErrorKind::Other.into()),
+            number: state.faults.begin(),
+            fault: None,
         }
     }
 
@@ -33,7 +37,8 @@ impl<'a> Reading<'a> {
             part,
             ticket: Some(ticket),
             image: Image::default(),
-            fault: ReadFault::Device(std::io::ErrorKind::Other.into()),
+            number: 0,
+            fault: None,
         }
     }
 
@@ -78,8 +83,9 @@ impl<'a> Reading<'a> {
         Ok((state, pass))
     }
 
-    pub(super) fn fail_with_wrong_page(&mut self) {
-        self.fault = ReadFault::WrongPage;
+    /// Ends the read, which failed, with this fault.
+    pub(super) fn fail(mut self, fault: &ReadFault) {
+        self.fault = Some(Fault::of(fault));
     }
 }
 
@@ -87,12 +93,18 @@ impl Drop for Reading<'_> {
     fn drop(&mut self) {
         if let Some(ticket) = self.ticket.take() {
             let page = ticket.page();
+            let to_pool = match self.fault {
+                Some(Fault::WrongPage) => ReadFault::WrongPage,
+                _ => ReadFault::Device(std::io::ErrorKind::Other.into()),
+            };
             let mut state = self.part.lock();
             // A ticket of this pool that is out is always taken.
-            let _ = state.pool.fail_read(ticket, &self.fault);
+            let _ = state.pool.fail_read(ticket, &to_pool);
             let now = state.now;
             state.away.come_back(&self.part.seats, page, now);
             self.image = state.keep(mem::take(&mut self.image)).unwrap_or_default();
+            let fault = self.fault.take();
+            let _older = fault.and_then(|fault| state.faults.note(page, self.number, fault));
             self.part.wake(state, page);
         }
     }

@@ -6,6 +6,7 @@ mod device;
 mod discard;
 mod edits;
 mod engine;
+mod failing;
 mod faulty;
 mod kept;
 mod latches;
