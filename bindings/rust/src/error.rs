@@ -13,7 +13,8 @@ use std::result;
 ///
 /// Each has the number of `hojzmated.h` and its text, which [`Display`](fmt::Display) shows, except
 /// for [`Lent`](Error::Lent), [`VersionMismatch`](Error::VersionMismatch) and
-/// [`TooManyGuards`](Error::TooManyGuards), which are this crate's own.
+/// [`TooManyGuards`](Error::TooManyGuards), which are this crate's own, and
+/// [`Deadlock`](Error::Deadlock), which has that of `hojzmated_pager.h`.
 #[derive(Clone, Copy, Debug, PartialEq, Eq, Hash)]
 #[non_exhaustive]
 pub enum Error {
@@ -80,6 +81,9 @@ pub enum Error {
     /// 62, a number of this crate alone: the page of a [`SharedPager`](crate::SharedPager) has 524,288
     /// pins or shared latches, and gets no other guard before some of these are dropped.
     TooManyGuards,
+    /// 72, a number of `hojzmated_pager.h`: the call would wait for a latch that its own thread has. It comes
+    /// of a [`SharedPager`](crate::SharedPager) that [notes them](crate::SharedConfig::notes_latches).
+    Deadlock,
     /// A number that a newer library has.
     Other(u16),
 }
@@ -112,8 +116,8 @@ static NUMBERED: [Error; 19] = [
 
 impl Error {
     /// Returns the number of `hojzmated.h`. Those of [`Lent`](Error::Lent),
-    /// [`VersionMismatch`](Error::VersionMismatch) and [`TooManyGuards`](Error::TooManyGuards) are
-    /// beyond those.
+    /// [`VersionMismatch`](Error::VersionMismatch), [`TooManyGuards`](Error::TooManyGuards) and
+    /// [`Deadlock`](Error::Deadlock) are beyond those.
     pub const fn number(self) -> u16 {
         match self {
             Error::BadGeometry => 1,
@@ -138,6 +142,7 @@ impl Error {
             Error::Lent => 60,
             Error::VersionMismatch { .. } => 61,
             Error::TooManyGuards => 62,
+            Error::Deadlock => 72,
             Error::Other(number) => number,
         }
     }
@@ -184,6 +189,9 @@ impl fmt::Display for Error {
         match *self {
             Error::Lent => return f.write_str("bytes of the page are lent"),
             Error::TooManyGuards => return f.write_str("the page has too many guards"),
+            Error::Deadlock => {
+                return f.write_str("the call would wait for a latch that this thread has");
+            }
             Error::VersionMismatch { library } => {
                 let (major, minor, patch) = (library / 10_000, library / 100 % 100, library % 100);
                 return write!(
@@ -265,6 +273,9 @@ mod tests {
         assert!(last < Some(Error::Lent.number()));
         assert_eq!(Error::VersionMismatch { library: 0 }.number(), 61);
         assert_eq!(Error::TooManyGuards.number(), 62);
+        let pager = include_str!("../../../include/hojzmated_pager.h");
+        let line = format!("HZ_DEADLOCK = {},", Error::Deadlock.number());
+        assert!(pager.contains(&line));
         assert_eq!(Error::check(0), Ok(()));
     }
 
@@ -295,6 +306,10 @@ mod tests {
             ),
             (Error::Lent, "bytes of the page are lent"),
             (Error::TooManyGuards, "the page has too many guards"),
+            (
+                Error::Deadlock,
+                "the call would wait for a latch that this thread has",
+            ),
             (Error::Other(15), "unknown number (15)"),
         ] {
             assert_eq!(error.to_string(), text);

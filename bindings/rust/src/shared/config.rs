@@ -72,6 +72,13 @@ pub struct SharedConfig {
     /// After a crash their bytes on the device mean nothing: begin each by
     /// [`new_page`](crate::SharedPager::new_page), and put all of its bytes that are looked at.
     pub temporary: Range<u64>,
+    /// Whether each thread notes the latches that it has, up to 32 of them. Then a call that would wait for a latch
+    /// of its own thread is refused with [`Error::Deadlock`], and a [`PagePin`](crate::PagePin) panics: else such
+    /// a call waits for ever. A call for a latch that is free is not refused.
+    ///
+    /// [`SharedConfig::new`] has it false, but true in a program with debug assertions. Without these it takes a
+    /// lock for each page that is had, which is told by no other means; where it is false nothing is noted.
+    pub notes_latches: bool,
     /// The time for which a call waits for another thread to unpin a page, where all possible
     /// victims are pinned. After that it is refused with [`Error::NoVictim`].
     pub pin_wait: Duration,
@@ -126,6 +133,7 @@ impl SharedConfig {
             retained: (frames as u64).saturating_mul(8),
             k: 2,
             temporary: 0..0,
+            notes_latches: cfg!(debug_assertions),
             pin_wait: Duration::from_secs(10),
         }
     }

@@ -1,6 +1,6 @@
 //! The guards of a page: `PagePin` without a latch, `PageRef` under a shared one, `PageMut` alone.
 use super::pager::SharedPager;
-use super::part::Part;
+use super::part::{NOTES_AT_ONCE, Part};
 use super::seats::Seat;
 use super::within::Waited;
 use super::word::{PIN, READER, WRITER, Word};
@@ -86,7 +86,10 @@ impl<'a, const KIND: u64> Share<'a, KIND> {
 impl<const KIND: u64> Drop for Share<'_, KIND> {
     #[inline]
     fn drop(&mut self) {
-        self.part.leave(self.seat, KIND);
+        let left = self.seat.leave(KIND);
+        if !self.part.is_left_so(left) {
+            drop_slowly(self.part, self.seat, KIND, left);
+        }
     }
 }
 
@@ -100,7 +103,17 @@ impl<'a, const KIND: u64> Share<'a, KIND> {
     }
 }
 
-/// What a guard left that was let go.
+/// Ends the drop of a share where more has to be done.
+#[cold]
+#[inline(never)]
+fn drop_slowly(part: &Part, seat: &Seat, kind: u64, left: Word) {
+    if kind != PIN {
+        part.forget_latch(seat);
+    }
+    part.leave_slowly(seat, left);
+}
+
+/// What a guard left that was let go: that of a latch.
 #[doc(hidden)]
 #[must_use = "more may have to be done"]
 pub struct Left<'a> {
@@ -118,17 +131,24 @@ impl Left<'_> {
 
     /// The second step of a drop, if that was not all: a thread may wait for the latch.
     pub fn finish(self) {
-        self.part.leave_slowly(self.seat, self.word);
+        drop_slowly(self.part, self.seat, READER, self.word);
     }
 }
 
 /// Panics where a latch was not had.
 #[inline]
 fn had(latched: Result<()>) {
-    match latched {
-        Ok(()) => {}
-        Err(Error::TooManyGuards) => panic!("the page has too many guards"),
-        Err(_) => panic!("a function of the engine waits for a latch longer than for a pin"),
+    if let Err(error) = latched {
+        not_had(error);
+    }
+}
+
+#[cold]
+fn not_had(error: Error) -> ! {
+    match error {
+        Error::TooManyGuards => panic!("the page has too many guards"),
+        Error::Deadlock => panic!("the thread would wait for a latch that it has"),
+        _ => panic!("a function of the engine waits for a latch longer than for a pin"),
     }
 }
 
@@ -150,7 +170,8 @@ impl<'a> PagePin<'a> {
     ///
     /// # Panics
     /// In a function of the engine that the pager called, after the time of a pin wait. Where the page has
-    /// 524,288 pins or shared latches.
+    /// 524,288 pins or shared latches. And where a thread would wait for itself, if
+    /// [latches are noted](crate::SharedConfig::notes_latches).
     #[inline]
     pub fn read(&self) -> PageRef<'_> {
         let Share { part, seat } = self.0;
@@ -237,7 +258,17 @@ impl<'a> PagePin<'a> {
 impl<'a> PageRef<'a> {
     #[inline]
     pub(super) fn new(share: Share<'a, READER>) -> PageRef<'a> {
+        share.part.note_latch(share.seat);
         PageRef(share, PhantomData)
+    }
+
+    /// The same where no lock was taken.
+    #[inline(always)]
+    pub(super) fn at_once(share: Share<'a, READER>) -> PageRef<'a> {
+        match NOTES_AT_ONCE {
+            true => PageRef::new(share),
+            false => PageRef(share, PhantomData),
+        }
     }
 
     /// The first step of a drop: the latch is free. It can't panic.
@@ -286,7 +317,17 @@ impl AsRef<[u8]> for PageRef<'_> {
 impl<'a> PageMut<'a> {
     #[inline]
     pub(super) fn new(share: Share<'a, WRITER>) -> PageMut<'a> {
+        share.part.note_latch(share.seat);
         PageMut(share, PhantomData)
+    }
+
+    /// The same where no lock was taken.
+    #[inline(always)]
+    pub(super) fn at_once(share: Share<'a, WRITER>) -> PageMut<'a> {
+        match NOTES_AT_ONCE {
+            true => PageMut::new(share),
+            false => PageMut(share, PhantomData),
+        }
     }
 
     /// The first step of a drop: the latch is free. It can't panic.

@@ -209,8 +209,8 @@ impl Part {
     /// Waits for a latch, beside a pin.
     ///
     /// # Errors
-    /// [`Error::Busy`] in a function of the engine, where it waits for the pin wait at most;
-    /// [`Error::TooManyGuards`].
+    /// [`Error::Deadlock`] where this thread has noted a latch of the page; [`Error::Busy`] in a function of the
+    /// engine, where it waits for the pin wait at most; [`Error::TooManyGuards`].
     #[inline]
     pub(super) fn take_latch(&self, seat: &Seat, latch: u64) -> Result<()> {
         if seat.try_latch(latch, 0) {
@@ -239,6 +239,10 @@ impl Part {
         in_place_of: u64,
         waited: &Waited,
     ) -> Result<()> {
+        // Who would let it go waits here.
+        if self.is_own(seat) {
+            return Err(Error::Deadlock);
+        }
         if seat.latch_soon(latch, in_place_of) {
             return Ok(());
         }

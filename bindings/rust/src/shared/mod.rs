@@ -9,6 +9,7 @@ mod guards;
 mod kept;
 mod latch;
 mod log;
+mod own;
 mod owned;
 mod pager;
 mod part;

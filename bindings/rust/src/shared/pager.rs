@@ -459,7 +459,7 @@ impl<F: PageIo> SharedPager<F> {
         if asked.is_new {
             part.drop_ahead(&mut state, own);
         }
-        if let Some(seat) = part.seats.out(own) {
+        if let Some(seat) = part.out_under(own) {
             return Ok(part.join_under(state, seat)?);
         }
         if part.seats.of(own).is_none() {

@@ -5,6 +5,7 @@ use super::faults::{Fault, Faults};
 use super::firsts::Firsts;
 use super::kept::Kept;
 use super::latch::Queues;
+use super::own;
 use super::places::Places;
 use super::seats::{FreeSeats, Seat, Seats, filled, list_of};
 use super::within::{self, Waited};
@@ -32,12 +33,16 @@ pub(super) struct Part {
     pub(super) page_size: usize,
     /// What the clock of the pool is. It changes under the lock.
     now: AtomicU64,
-    /// The number of threads that wait for a page to be unpinned.
+    /// The number of threads that wait for a page to be unpinned, and [`NOTES`] where latches are noted.
     waiting: AtomicUsize,
     /// Whether any pass stays out.
     pub(super) keeps: bool,
     /// Whether each pin is told to the pool.
     pub(super) tells_each: bool,
+    /// Whether each thread notes the latches that it has.
+    pub(super) notes: bool,
+    /// Whether a page whose pass is out is pinned without the lock.
+    pub(super) joins: bool,
     /// The number of this part and of all parts.
     number: u64,
     parts: u64,
@@ -115,6 +120,11 @@ const LOOKS: u32 = 12;
 /// The places at which threads sleep that wait for device work. Those that wait for different pages
 /// may share one, and then are woken in vain.
 pub(super) const PLACES: usize = 8;
+/// More than the threads that wait.
+const NOTES: usize = 1 << 24;
+/// Whether a latch is noted where it is taken without the lock. That would cost each such latch more than one
+/// hundredth: so without debug assertions a pager that notes latches takes them under the lock alone.
+pub(super) const NOTES_AT_ONCE: bool = cfg!(debug_assertions);
 /// So many bytes are copied without the lock.
 const FEW: usize = 64;
 /// So many unsaved pages are looked at in one go under the lock.
@@ -127,6 +137,7 @@ impl Part {
     pub(super) fn new(config: &SharedConfig, number: usize, pager: u64) -> Result<Part> {
         let (parts, pin_wait) = (config.parts as u64, config.pin_wait);
         let (tells_each, temporary) = (config.tells_each_pin, config.temporary.clone());
+        let notes = config.notes_latches;
         // The limits are checked before the lists take memory.
         let config = config.of_part(number)?;
         let state = State::new(&config)?;
@@ -134,9 +145,11 @@ impl Part {
             seats: Seats::new(config.pages, config.frames)?,
             page_size: config.page_size,
             now: AtomicU64::new(1),
-            waiting: AtomicUsize::new(0),
+            waiting: AtomicUsize::new(if notes { NOTES } else { 0 }),
             keeps: config.correlated > 0 && !tells_each,
             tells_each,
+            notes,
+            joins: !tells_each && (NOTES_AT_ONCE || !notes),
             number: number as u64,
             parts,
             temporary,
@@ -300,9 +313,35 @@ impl Part {
         state
     }
 
-    #[inline]
+    /// Whether threads wait for a page to be unpinned.
     pub(super) fn has_waiting(&self) -> bool {
+        self.waiting.load(Ordering::SeqCst) % NOTES != 0
+    }
+
+    /// Whether they do, or the thread that lets a latch go has noted it: one look for both.
+    #[inline]
+    pub(super) fn has_waiting_or_notes(&self) -> bool {
         self.waiting.load(Ordering::SeqCst) != 0
+    }
+
+    /// Whether this thread has a latch of a seat's page, as far as latches are noted.
+    pub(super) fn is_own(&self, seat: &Seat) -> bool {
+        self.notes && own::has(self.pager, seat)
+    }
+
+    /// Notes that this thread has a latch of a seat's page.
+    #[inline]
+    pub(super) fn note_latch(&self, seat: &Seat) {
+        if self.notes {
+            own::note(self.pager, seat);
+        }
+    }
+
+    /// Notes that this thread has let it go.
+    pub(super) fn forget_latch(&self, seat: &Seat) {
+        if self.notes {
+            own::forget(self.pager, seat);
+        }
     }
 
     /// Wakes a thread that waits for a page to be unpinned, if there is one, and all that wait for one

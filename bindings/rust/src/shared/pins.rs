@@ -77,7 +77,7 @@ impl Part {
         }
         found.touch(self.now());
         // SAFETY: the pass was out, and the latch free.
-        Ok(PageRef::new(unsafe { Share::new(self, found) }))
+        Ok(PageRef::at_once(unsafe { Share::new(self, found) }))
     }
 
     /// Goes on where that was not had.
@@ -121,7 +121,7 @@ impl Part {
             return Err(MissedAlone(Some(share)));
         }
         seat.touch(self.now());
-        Ok(PageMut::new(share))
+        Ok(PageMut::at_once(share))
     }
 
     /// The same without a latch.
@@ -153,7 +153,7 @@ impl Part {
     /// Whether nothing has to be done by who left a word so.
     #[inline]
     pub(super) fn is_left_so(&self, left: Word) -> bool {
-        left.is_quiet() && !self.has_waiting()
+        left.is_quiet() && !self.has_waiting_or_notes()
     }
 
     #[cold]
@@ -205,7 +205,9 @@ impl Part {
             let now = state.now;
             state.kept.refer(number, now);
             let _ = state.pool.unfix_by(&pass);
-            return self.add_pin(state, self.seats.seat(number), Seat::add_pin);
+            let seat = self.seats.seat(number);
+            let before = seat.add_pin();
+            return self.with_pin(state, seat, before);
         }
         let seat = self.begin(&mut state, &pass, came)?;
         drop(state);
@@ -244,7 +246,7 @@ impl Part {
         state.kept.set_ahead(number, came == Came::Ahead);
         let touched = if came == Came::Ahead { 0 } else { now };
         seat.begin(page, &Pinned { bytes, serial }, touched, stays);
-        if !self.tells_each {
+        if self.joins {
             self.seats.set_out(page, number, true);
         }
         if stays {
@@ -253,21 +255,32 @@ impl Part {
         Ok(seat)
     }
 
+    /// Returns the seat of a page whose pass is out, while the lock is held, if not each pin is told to the pool.
+    pub(super) fn out_under(&self, page: u64) -> Option<&Seat> {
+        let number = self.seats.of(page).filter(|_| !self.tells_each)?;
+        Some(self.seats.seat(number)).filter(|it| it.word().is_out())
+    }
+
     /// Pins a page whose pass is out, without asking the pool. The lock is opened.
     pub(super) fn join_under<'a>(
         &'a self,
-        state: Locked<'_>,
+        mut state: Locked<'_>,
         seat: &'a Seat,
     ) -> Result<PagePin<'a>> {
         seat.touch(state.now);
-        self.add_pin(state, seat, |seat| seat.join(PIN))
+        let before = seat.join(PIN);
+        if before.is_due() {
+            self.count_under(&mut state, self.seats.number_of(seat));
+        }
+        self.with_pin(state, seat, before)
     }
 
     /// Pins a page that is in a frame, for the pager itself. The lock is opened.
     pub(super) fn pin_under<'a>(&'a self, mut state: Locked<'a>, page: u64) -> Result<PagePin<'a>> {
         let seat = self.seats.of(page).map(|number| self.seats.seat(number));
         if let Some(seat) = seat.filter(|it| it.word().is_out()) {
-            return self.add_pin(state, seat, Seat::add_pin);
+            let before = seat.add_pin();
+            return self.with_pin(state, seat, before);
         }
         match self.ask(&mut state, page)? {
             Fix::Here(pass) => self.pinned(state, pass, Came::Here),
@@ -282,14 +295,13 @@ impl Part {
         self.seats.seat(number).word().is_written()
     }
 
-    /// Makes a pin under the lock, while the pass is out. The lock is opened.
-    fn add_pin<'a>(
+    /// Opens the lock, under which a pin was added while the pass is out, and returns the pin.
+    fn with_pin<'a>(
         &'a self,
         state: Locked<'_>,
         seat: &'a Seat,
-        add: impl FnOnce(&Seat) -> Word,
+        before: Word,
     ) -> Result<PagePin<'a>> {
-        let before = add(seat);
         drop(state);
         // SAFETY: the pass is out, and the pin in the word.
         let pin = PagePin::new(unsafe { Share::new(self, seat) });

@@ -15,6 +15,7 @@ mod natural;
 mod nested;
 mod others;
 mod overlap;
+mod own;
 mod owned;
 mod panics;
 mod refusals;
