@@ -1,7 +1,8 @@
 //! Reads that failed. The threads that waited for the page as such a read began have its fault too: else each of
 //! them in turn has the device try the same.
 use super::part::{PLACES, place_of};
-use crate::{PagerError, ReadFault};
+use super::seats::filled;
+use crate::{PagerError, ReadFault, Result};
 use std::io;
 use std::sync::Arc;
 
@@ -38,11 +39,10 @@ impl Fault {
 }
 
 /// The newest reads of a part that failed, one for each place of a page's number.
-#[derive(Default)]
 pub(super) struct Faults {
     /// The number of reads that were begun so far.
     begun: u64,
-    of_places: [Option<Failed>; PLACES],
+    of_places: Box<[Option<Failed>]>,
 }
 
 /// A read that failed, by its page and its number.
@@ -53,6 +53,13 @@ pub(super) struct Failed {
 }
 
 impl Faults {
+    pub(super) fn new() -> Result<Faults> {
+        Ok(Faults {
+            begun: 0,
+            of_places: filled(PLACES)?.into_boxed_slice(),
+        })
+    }
+
     /// Returns the number of a read that begins now.
     pub(super) fn begin(&mut self) -> u64 {
         self.begun += 1;

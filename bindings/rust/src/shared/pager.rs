@@ -421,6 +421,7 @@ impl<F: PageIo> SharedPager<F> {
     }
 
     /// Returns a page under its exclusive latch, for which it waits.
+    #[inline(always)]
     fn latched_alone(&self, page: u64, asked: Asked) -> Result<PageMut<'_>, PagerError> {
         let (part, own) = self.place(page)?;
         let waited = Waited::default();

@@ -740,7 +740,7 @@ impl State {
             purge_at: config.retained.saturating_add(PURGE_TICKS),
             unused_ticks: 0,
             for_work: [0; PLACES],
-            faults: Faults::default(),
+            faults: Faults::new()?,
             joined: 0,
             referred: 0,
             waits: 0,

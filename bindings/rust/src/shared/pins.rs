@@ -114,14 +114,26 @@ impl Part {
         let Some(seat) = free else {
             return Err(MissedAlone(None));
         };
-        // SAFETY: the pass was out, and the latch free.
-        let share = unsafe { Share::new(self, seat) };
         // Another page may have the seat since it was looked up.
         if seat.page() != page {
-            return Err(MissedAlone(Some(share)));
+            // SAFETY: the pass was out, and the latch free.
+            return Err(unsafe { self.missed_alone(seat) });
         }
         seat.touch(self.now());
-        Ok(PageMut::at_once(share))
+        // SAFETY: the pass was out, and the latch free.
+        Ok(PageMut::at_once(unsafe { Share::new(self, seat) }))
+    }
+
+    /// Returns the latch of another page, which was taken in vain. It stands apart: else what is returned there
+    /// is in the way of the registers of who has its page.
+    ///
+    /// # Safety
+    /// It was taken just now, while the pass is out.
+    #[cold]
+    #[inline(never)]
+    unsafe fn missed_alone<'a>(&'a self, seat: &'a Seat) -> MissedAlone<'a> {
+        // SAFETY: the caller says so.
+        MissedAlone(Some(unsafe { Share::new(self, seat) }))
     }
 
     /// The same without a latch.

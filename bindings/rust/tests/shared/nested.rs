@@ -134,7 +134,12 @@ fn read_that_needs_a_latch_of_who_waits_for_it() {
 #[test]
 fn latch_of_a_pin_panics() {
     let _watch = Watch::over("latch_of_a_pin_panics", 60);
-    let pager = with_work(&pin_wait(50), |pager, asked| {
+    // Else the latch, which is the thread's own, would be refused at once.
+    let config = SharedConfig {
+        notes_latches: false,
+        ..pin_wait(50)
+    };
+    let pager = with_work(&config, |pager, asked| {
         if asked == Asked::Read(7) {
             let pin: PagePin<'_> = pager.pin(0).unwrap();
             drop(pin.write());
