@@ -205,7 +205,8 @@ uint16_t hz_pager_free(hz_pager *pager);
 
 /* Fixes a page: gives it in *ref, with a latch or pinned, until hz_pager_unfix. It is read if it is in no frame, and
  * another page may have to be written out for that, its log record first. The call waits while the page is read by
- * another thread, and for the latch. Refused:
+ * another thread, and for the latch. Where that read began after the call came to wait, and fails, the call is refused
+ * as that one; else it has the page read anew. Refused:
  *
  *     HZ_BAD_SETTINGS  there is no such how
  *     HZ_OUT_OF_PAGE

@@ -89,7 +89,9 @@ use std::time::{Duration, Instant};
 /// latches in one order, such as from the root of a tree down and from left to right. Against that
 /// order it takes them by [`try_read`](SharedPager::try_read) and
 /// [`try_write`](SharedPager::try_write), and frees its own latches where they return None. A thread
-/// that has a latch must not ask for the same page again, nor have it written out.
+/// that has a latch must not ask for the same page again, nor have it written out: with
+/// [`SharedConfig::notes_latches`] a call that would wait for a latch of its own thread is refused with
+/// [`Error::Deadlock`], and else it waits for ever.
 ///
 /// # What the functions of the engine may call
 /// While the device or the log works the pager has no latch of a page. One is excepted:
@@ -267,7 +269,9 @@ impl<F: PageIo> SharedPager<F> {
     /// log failed. [`PagerError::Refused`] with [`OutOfPage`](Error::OutOfPage) where the file has
     /// no such page; [`NoVictim`](Error::NoVictim) where all possible victims were pinned for too
     /// long; [`PagerError::WrongPage`] where another page was found in the page's place;
-    /// [`OutOfMemory`](Error::OutOfMemory); [`Busy`](Error::Busy) in a function of the engine.
+    /// [`OutOfMemory`](Error::OutOfMemory); [`Busy`](Error::Busy) in a function of the engine;
+    /// [`Deadlock`](Error::Deadlock) where it would wait for a latch of this thread, if
+    /// [latches are noted](SharedConfig::notes_latches).
     // Always: else what it gives goes through memory.
     #[inline(always)]
     pub fn read(&self, page: u64) -> Result<PageRef<'_>, PagerError> {

@@ -35,7 +35,8 @@
 //!   under the lock. Joins are counted as shares are added, and taken under the lock. A page that was read
 //!   ahead has STAYS from the first, before any share but the reader's.
 //! - **The seat of a page** changes under the lock, and else is a hint (Relaxed): `page` is compared
-//!   under a share. So are `touched` and the part's `now` (Relaxed), on which no safety relies.
+//!   under a share. So are `touched` and the part's `now` (Relaxed), on which no safety relies. Who uses a page
+//!   notes that in `touched` before it lets go: so it is seen once OUT is gone.
 //! - **Order of locks:** a latch, then the part's lock, then the mutex of the queues. Nobody waits for a
 //!   latch, sleeps for anything else than the lock itself, or calls the engine with the part's lock.
 //! - **Tickets.** Who has tickets of pages, to read them or write them out, waits for no latch, log, page or
