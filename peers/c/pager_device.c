@@ -336,6 +336,43 @@ static void threads(void)
     end(&pager);
 }
 
+/* Until all other threads have come to wait for the page that is read. */
+static void till_others_wait(void)
+{
+    hz_pager_stats stats;
+    do
+        SAME(HZ_DONE, hz_pager_stats_of(device.pager, &stats));
+    while (stats.waits < THREADS - 1);
+}
+
+static void *is_told(void *pager)
+{
+    hz_ref ref;
+    REFUSED(HZ_READ_FAILED, 1, 6, 0, EIO, hz_pager_fix(pager, 6, HZ_SHARED, &ref));
+    return NULL;
+}
+
+/* A page that cannot be read is read once more for all that waited meanwhile, and not once for each. */
+static void fault_of_many(void)
+{
+    pthread_t all[THREADS];
+    hz_pager pager = start();
+    device.pager = &pager;
+    device.read_error = EIO;
+    device.inside = till_others_wait;
+    for (int i = 0; i < THREADS; i++)
+        SAME(0, pthread_create(&all[i], NULL, is_told, &pager));
+    for (int i = 0; i < THREADS; i++)
+        SAME(0, pthread_join(all[i], NULL));
+    SAME(2, device.reads);
+    device.inside = NULL;
+    device.read_error = 0;
+    hz_ref ref = fixed(&pager, 6, HZ_SHARED);
+    SAME(3, device.reads);
+    SAME(HZ_DONE, hz_pager_unfix(&ref));
+    end(&pager);
+}
+
 /* ---- Page files ---- */
 
 static void files(void)
@@ -477,7 +514,7 @@ static void panics(void)
     for (; count <= MOST && number == HZ_DONE; count++)
         number = hz_pager_fix(&pager, 1, HZ_PINNED, &pins[count]);
     SAME(HZ_PANICKED, number);
-    SAYS("the library found a fault of its own, or a page has 500,000 pins or latches");
+    SAYS("page 1: the library found a fault of its own, or a page has 500,000 pins or latches");
     SAME(MOST, count - 1);
     for (size_t i = 0; i < MOST; i++)
         SAME(HZ_DONE, hz_pager_unfix(&pins[i]));
@@ -550,6 +587,7 @@ int main(void)
     pins_that_are_told();
     callbacks();
     threads();
+    fault_of_many();
     files();
     new_files();
     clock_at_its_end();

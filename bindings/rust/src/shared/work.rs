@@ -78,7 +78,8 @@ impl<'a> Reading<'a> {
                 return Err(error);
             }
         };
-        state.free.give(&part.seats, pass.page());
+        let page = pass.page();
+        state.free.give(&part.seats, page);
         self.image = state.keep(mem::take(&mut self.image)).unwrap_or_default();
         Ok((state, pass))
     }

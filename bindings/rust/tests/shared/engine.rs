@@ -91,6 +91,7 @@ impl Engine {
             retained: 1_000,
             pin_wait: Duration::from_millis(if settings.several_in > 0 { 300 } else { 60_000 }),
             temporary: temporary.clone(),
+            notes_latches: settings.seed % 2 == 0,
             ..SharedConfig::new(pages, SIZE, settings.frames)
         };
         let device = Device::new(pages, temporary, settings.seed, settings.faults_in);
