@@ -76,8 +76,9 @@ pub struct SharedConfig {
     /// of its own thread is refused with [`Error::Deadlock`], and a [`PagePin`](crate::PagePin) panics: else such
     /// a call waits for ever. A call for a latch that is free is not refused.
     ///
-    /// [`SharedConfig::new`] has it false, but true in a program with debug assertions. Without these it takes a
-    /// lock for each page that is had, which is told by no other means; where it is false nothing is noted.
+    /// [`SharedConfig::new`] has it false, but true in a program with debug assertions. Where it is set in one
+    /// without these, each guard takes the lock of the page's part, and a look takes three times as many
+    /// instructions. Where it is false nothing is noted.
     pub notes_latches: bool,
     /// The time for which a call waits for another thread to unpin a page, where all possible
     /// victims are pinned. After that it is refused with [`Error::NoVictim`].
