@@ -1,28 +1,29 @@
-"""Tests of hojzmated.py: `python3 -m unittest discover -s bindings/python`.
+"""Tests of lists, pools and the library: `python3 -m unittest discover -s bindings/python`, which runs those of
+test_pager.py too.
 
 What lists of references come to is compared with the cases of check/program.cases, and with peers/simulation.py, which
 shares nothing with the library.
 """
-import array
 import concurrent.futures
+import copy
 import ctypes
 import doctest
 import importlib.util
+import inspect
+import multiprocessing
 import os
 import pickle
 import re
+import shutil
+import subprocess
+import sys
 import tempfile
 import threading
-import time
 import unittest
 from unittest import mock
 
 import hojzmated
-
-try:
-    import numpy
-except ImportError:
-    numpy = None
+from hojzmated import _library
 
 TOP = os.path.dirname(os.path.dirname(os.path.dirname(os.path.realpath(__file__))))
 
@@ -152,7 +153,7 @@ class Lists(unittest.TestCase):
 
     # Want of memory is not taken for a reference that was refused.
     def test_want_of_memory(self):
-        with mock.patch.object(hojzmated._hz, "hz_fix", return_value=22):
+        with mock.patch.object(_library.hz, "hz_fix", return_value=22):
             with self.assertRaises(hojzmated.Refused) as refused:
                 hojzmated.count([1], frames=1)
         self.assertEqual(refused.exception.number, 22)
@@ -308,276 +309,61 @@ def load_tests(_loader, tests, _pattern):
     return tests
 
 
-def in_thread(function):
-    """Runs a function in a thread of its own. Returns what it returned, or raises what it raised."""
-    with concurrent.futures.ThreadPoolExecutor(1) as pool:
-        return pool.submit(function).result()
-
-
-class Pagers(unittest.TestCase):
-    def setUp(self):
-        self.folder = tempfile.TemporaryDirectory()
-        self.addCleanup(self.folder.cleanup)
-        self.path = os.path.join(self.folder.name, "pages")
-
-    def refused(self, number, function, *arguments, page=None, errno=0, **named):
-        with self.assertRaises(hojzmated.Refused) as caught:
-            function(*arguments, **named)
-        found = caught.exception
-        self.assertEqual((found.number, found.page, found.errno), (number, page, errno))
-        return str(found)
-
-    def pager(self, **named):
-        return hojzmated.Pager(self.path, **{"pages": 16, "page_size": 64, "frames": 4, "parts": 1, **named})
-
-    def test_pages_of_a_file(self):
-        for format, head in (1, 0), (2, 16):
-            with self.pager(format=format) as pager:
-                for number in range(16):
-                    with pager.write(number) as page:
-                        self.assertEqual(page.bytes, bytes(64))
-                        page.put(0, bytes([number]) * 8)
-                        page.put(8, array.array("Q", [number]), lsn=number)
-                        self.assertEqual(bytes(page.bytes[:9]), bytes([number]) * 9)
-                self.assertEqual(pager.stats()[:4], (0, 16, 12, 12))
-                self.assertEqual([pager.is_resident(number) for number in (0, 15)], [False, True])
-                pager.flush(15)
-                self.assertEqual(pager.clean(2), 2)
-                pager.checkpoint()
-                self.assertEqual((pager.stats().writes, pager.stats().unsaved), (16, 0))
-                self.assertEqual(pager.purge(), 0)
-            with open(self.path, "rb") as file:
-                for number in range(16):
-                    slot = file.read(head + 64)
-                    self.assertEqual(slot[:head], b"".join(it.to_bytes(8, "little") for it in (number, number))[:head])
-                    self.assertEqual(slot[head:head + 16], bytes([number]) * 9 + bytes(7))
-                self.assertEqual(file.read(), b"")
-            with self.pager(pages=None, format=format, pin_wait=0.01) as pager:
-                with pager.write(2) as page:
-                    page.put(0, b"dropped")
-                    self.refused(25, pager.discard, 2, page=2)
-                self.refused(45, pager.discard, 2, 15)
-                self.assertEqual((pager.discard(2, 3), pager.stats().discards), (1, 1))
-                with pager.read(2) as page:
-                    self.assertEqual(bytes(page.bytes[:8]), bytes([2]) * 8)
-                self.refused(45, pager.read, 16, page=16)
-                with pager.new_page(3) as page:
-                    self.assertEqual(bytes(page.bytes), bytes(64))
-                    page.put(0, b"new")
-                pager.checkpoint()
-            os.remove(self.path)
-
-    def test_another_length(self):
-        """A file of another format or page size is refused, and stays as it was."""
-        for page_size, was, opened, size in (4096, 1, 2, 4096), (4096, 2, 2, 8192), (4096, 2, 1, 4096):
-            path = os.path.join(self.folder.name, f"length{was}{opened}{size}")
-            with hojzmated.Pager(path, 100, page_size, 8, format=was) as pager:
-                with pager.new_page(7) as page:
-                    page.put(0, b"kept")
-                pager.checkpoint()
-            with open(path, "rb") as file:
-                before = file.read()
-            for pages in None, 200:
-                with self.assertRaises((ValueError, hojzmated.Refused)):
-                    hojzmated.Pager(path, pages, size, 8, format=opened)
-            with open(path, "rb") as file:
-                self.assertEqual(before, file.read())
-
-    def test_bytes_end_with_the_latch(self):
-        with self.pager() as pager:
-            with pager.read(1) as page:
-                lent = page.bytes
-                with self.assertRaises(TypeError):
-                    lent[0] = 1
-            self.assertRaises(ValueError, lambda: lent[0])
-            self.assertIn("page 1 was given back", self.refused(14, lambda: page.bytes, page=1))
-            # A slice, another form of the same bytes, one more view, and what takes the bytes as an array does.
-            for kept in lambda it: it[2:6], lambda it: it.cast("Q"), memoryview, pickle.PickleBuffer:
-                page = pager.write(2)
-                other = kept(page.bytes)
-                self.assertRaises(BufferError, page.unfix)
-                self.assertEqual((len(page.bytes), bytes(other)[:4]), (64, bytes(4)))
-                self.refused(13, pager.close)
-                del other
-                page.unfix()
-            self.assertFalse(pager.stats().pinned)
-            with pager.pin(2) as page:
-                self.assertIsNone(page.bytes)
-                self.assertEqual(repr(page), "<page 2, pinned>")
-            self.refused(14, lambda: page.bytes, page=2)
-
-    # The pages of a thread that ends are given back, and what was lent of them can't be looked at.
-    def test_bytes_end_with_the_thread(self):
-        with self.pager() as pager:
-            def fix():
-                page, pin, other = pager.write(1), pager.pin(2), pager.read(3)
-                page.put(0, b"put")
-                self.assertEqual(bytes(page.bytes[:3]), b"put")
-                return page, page.bytes, pin, other
-
-            page, lent, pin, other = in_thread(fix)
-            self.assertEqual(pager.stats().pinned, 0)
-            for it in page, pin, other:
-                self.refused(14, lambda: it.bytes, page=it.number)
-                self.refused(14, it.unfix)
-            self.refused(14, page.put, 0, b"x")
-            self.assertRaises(ValueError, lambda: lent[0])
-            for number in 1, 2, 3:
-                pager.write(number, wait=False).unfix()
-
-    # A slice that outlives the thread shows its page further on: it stays in its frame till the slice is gone.
-    def test_slice_outlives_its_thread(self):
-        with self.pager() as pager:
-            def fix():
-                page = pager.write(1)
-                page.put(0, b"of page 1")
-                return page, page.bytes[:9], memoryview(page.bytes)
-
-            page, part, whole = in_thread(fix)
-            self.refused(14, lambda: page.bytes, page=1)
-            for number in range(2, 16):
-                with pager.write(number) as other:
-                    other.put(0, b"other" * 12)
-            self.assertEqual((bytes(part), bytes(whole[:9])), (b"of page 1", b"of page 1"))
-            self.assertEqual((pager.stats().pinned, pager.is_resident(1)), (1, True))
-            self.refused(13, pager.close)
-            with pager.write(1, wait=False) as again:
-                again.put(0, b"by others")
-            self.assertEqual(bytes(part), b"by others")
-            del part, whole
-            self.wait_till(lambda: pager.stats().pinned == 0)
-
-    def wait_till(self, is_so):
-        end = time.monotonic() + 60
-        while not is_so():
-            self.assertLess(time.monotonic(), end)
-            time.sleep(0.001)
-
-    # Another thread is refused, and the page of the first one stays as it was.
-    def test_unfix_of_another_thread(self):
-        with self.pager() as pager:
-            with pager.read(1) as page:
-                self.refused(14, in_thread, page.unfix)
-                self.assertEqual(bytes(page.bytes), bytes(64))
-                self.assertEqual(in_thread(lambda: bytes(page.bytes)), bytes(64))
-
-    @unittest.skipUnless(numpy, "no numpy")
-    def test_numpy(self):
-        with self.pager() as pager:
-            page = pager.write(1)
-            page.put(0, numpy.arange(8, dtype="<u8"))
-            array = numpy.frombuffer(page.bytes, dtype="<u8")
-            self.assertEqual(array.tolist(), list(range(8)))
-            page.put(8, numpy.array([70], dtype="<u8"))
-            self.assertEqual(array[1], 70)  # it is the page in place
-            with self.assertRaises(ValueError):
-                array[1] = 1
-            part, copy = array[2:4], array.copy()
-            self.assertRaises(BufferError, page.unfix)
-            self.assertEqual(page.bytes[8], 70)
-            del array
-            self.assertRaises(BufferError, page.unfix)
-            self.assertEqual(part.tolist(), [2, 3])
-            del part
-            page.unfix()
-            self.assertEqual((copy[1], pager.stats().pinned), (70, 0))
-
-    @unittest.skipUnless(numpy, "no numpy")
-    def test_numpy_outlives_its_thread(self):
-        with self.pager() as pager:
-            def fix():
-                page = pager.write(1)
-                page.put(0, numpy.arange(8, dtype="<u8"))
-                return page, numpy.frombuffer(page.bytes, dtype="<u8")
-
-            page, array = in_thread(fix)
-            self.refused(14, lambda: page.bytes, page=1)
-            for number in range(2, 16):
-                with pager.write(number) as other:
-                    other.put(0, b"other" * 12)
-            self.assertEqual(array.tolist(), list(range(8)))
-            self.refused(13, pager.close)
-            del array
-            self.wait_till(lambda: pager.stats().pinned == 0)
-
-    def test_refusals(self):
-        pager = self.pager(pin_wait=0.01)
-        with pager.read(1) as page:
-            self.refused(73, page.put, 0, b"x", page=1)
-            self.assertIn("latch that this thread has", self.refused(72, pager.write, 1))
-            self.refused(14, in_thread, page.unfix)
-            self.refused(13, in_thread, lambda: pager.write(1, wait=False), page=1)
-            in_thread(lambda: pager.read(1, wait=False).unfix())
-        self.refused(14, page.unfix)
-        with pager.write(1) as page:
-            self.refused(45, page.put, 63, b"xy", page=1)
-            self.refused(72, pager.checkpoint)
-            self.refused(72, pager.flush, 1)
-        pins = [pager.pin(number, wait=False) for number in range(4)]
-        self.refused(11, pager.read, 9, page=9)
-        for pin in pins:
-            pin.unfix()
-        os.truncate(self.path, 64)
-        self.assertIn("it could not be read", self.refused(17, pager.read, 9, page=9, errno=5))
-        for number in -1, 1 << 64:
-            self.assertRaises(ValueError, pager.read, number)
-        pager.close()
-        pager.close()
-        for call in pager.checkpoint, pager.stats, pager.purge, lambda: pager.read(1), lambda: pager.is_resident(1):
-            self.refused(50, call)
-        self.refused(2, self.pager, k=17)
-        self.refused(2, self.pager, format=3)
-        self.refused(1, self.pager, page_size=20)
-        self.assertRaises(FileNotFoundError, hojzmated.Pager, self.path + ".none")
-
-    # A thread that waits for a latch lets others go on, else this would not end.
-    def test_threads_wait_side_by_side(self):
-        with self.pager(page_size=64) as pager, concurrent.futures.ThreadPoolExecutor(8) as pool:
-            def add():
-                for number in range(200):
-                    with pager.write(number % 16) as page:
-                        count = int.from_bytes(page.bytes[:8], "little") + 1
-                        time.sleep(0)
-                        page.put(0, count.to_bytes(8, "little"))
-
-            for done in [pool.submit(add) for _ in range(8)]:
-                done.result()
-            page = pager.write(0)
-            waiting = pool.submit(lambda: pager.read(0).unfix())
-            self.assertRaises(concurrent.futures.TimeoutError, waiting.result, timeout=0.1)
-            page.unfix()
-            waiting.result()
-            counts = []
-            for number in range(16):
-                with pager.read(number) as page:
-                    counts.append(int.from_bytes(page.bytes[:8], "little"))
-            self.assertEqual(sum(counts), 1600)
-
-    # A pager of which nothing is known any more is freed, and its file closed.
-    def test_forgotten_pager(self):
-        pager = self.pager()
-        fd = pager._fd
-        del pager
-        self.assertRaises(OSError, os.fstat, fd)
-
-
 class Library(unittest.TestCase):
     def test_version(self):
         header = text_of("include", "hojzmated.h")
         parts = [re.search(rf"#define HZ_VERSION_{it} (\d+)", header)[1] for it in ("MAJOR", "MINOR", "PATCH")]
         self.assertEqual(hojzmated.version(), tuple(map(int, parts)))
-        with mock.patch.object(hojzmated._hz, "hz_version", return_value=20_304):
+        self.assertEqual(hojzmated.__version__, ".".join(parts))
+        with mock.patch.object(_library.hz, "hz_version", return_value=20_304):
             self.assertEqual(hojzmated.version(), (2, 3, 4))
+
+    # A library of another minor version is refused before a call of it is made, and of another patch version taken.
+    @unittest.skipUnless(shutil.which(os.environ.get("CC", "cc")), "no C compiler")
+    def test_library_of_another_version(self):
+        own = hojzmated.version()
+        number = own[0] * 10_000 + own[1] * 100
+        told = f"{own[0]}.{own[1] + 1}.7, and the module hojzmated {hojzmated.__version__}"
+        make = "import hojzmated; hojzmated.Pager('pages', 16, frames=4)"
+        for words, core, pager, wanted in (
+            ("import hojzmated", number + 107, None, told), (make, None, number + 107, told),
+            ("import hojzmated", 10_000 + number, None, f"{own[0] + 1}.{own[1]}.0"),
+            ("import hojzmated", "hz_other", None, "has no hz_version, so it is no library of Hojzmated"),
+            (make, None, number + 99, "undefined symbol: hz_pager_new_file"),  # it is taken, and has no calls
+        ):
+            with self.subTest(core=core, pager=pager), tempfile.TemporaryDirectory() as folder:
+                os.mkdir(os.path.join(folder, "lib"))
+                self.library(folder, "hojzmated", "hz_version", core)
+                self.library(folder, "hojzmated_pager", "hz_pager_version", pager)
+                ran = subprocess.run(
+                    [sys.executable, "-Bc", words], cwd=folder, stderr=subprocess.PIPE, encoding="utf-8",
+                    env={**os.environ, "HOJZMATED_PREFIX": folder, "PYTHONPATH": os.path.dirname(__file__)})
+                last = ran.stderr.strip().split("\n")[-1]
+                self.assertIn(wanted, last)
+                self.assertEqual(last.split(":")[0], "AttributeError" if "symbol" in wanted else "ImportError")
+                self.assertFalse(os.path.exists(os.path.join(folder, "pages")))
+
+    def library(self, folder, name, call, number):
+        """Puts a library there: the one that is tested, where no number is given, or one with nothing but this version,
+        or with another name."""
+        to = os.path.join(folder, "lib", f"lib{name}.so")
+        if number is None:
+            os.symlink(_library._path_of(name, ""), to)
+            return
+        call, number = (call, number) if isinstance(number, int) else (number, 0)
+        text = f"unsigned {call}(void) {{ return {number}; }}"
+        subprocess.run([os.environ.get("CC", "cc"), "-shared", "-fPIC", "-xc", "-", "-o", to], input=text.encode(),
+                       check=True)
 
     # Each struct and field lies where peers/c/layout.c says that the header has it, and layout_pager.c of the pager. No
     # page of a pool is unsaved here, and no pager calls back.
     def test_layout(self):
         self.lies("layout.c", "unsaved", {
-            "hz_core": hojzmated._Core, "hz_config": hojzmated._Config, "hz_grant": hojzmated._Grant,
-            "hz_fixed": hojzmated._Fixed, "hz_stats": hojzmated._Stats})
+            "hz_core": _library.Core, "hz_config": _library.Config, "hz_grant": _library.Grant,
+            "hz_fixed": _library.Fixed, "hz_stats": _library.CoreStats})
         self.lies("layout_pager.c", "io", {
-            "hz_pager": hojzmated._Pager, "hz_ref": hojzmated._Ref, "hz_pager_config": hojzmated._PagerConfig,
-            "hz_pager_fault": hojzmated._Fault, "hz_pager_stats": hojzmated._PagerStats})
+            "hz_pager": _library.PagerHandle, "hz_ref": _library.Ref, "hz_pager_config": _library.PagerConfig,
+            "hz_pager_fault": _library.Fault, "hz_pager_stats": _library.PagerCounts})
 
     def lies(self, layout, unused, types):
         text = text_of("peers", "c", layout)
@@ -590,11 +376,97 @@ class Library(unittest.TestCase):
         ]
         self.assertEqual(found, wanted)
 
-    # The numbers of the pager's header.
+    # The numbers and the names are those of the headers.
     def test_numbers(self):
-        header = text_of("include", "hojzmated_pager.h")
-        for name in "SHARED", "EXCLUSIVE", "PINNED", "TRY":
-            self.assertIn(f" HZ_{name} = {getattr(hojzmated, name)},", header)
+        headers = text_of("include", "hojzmated.h") + text_of("include", "hojzmated_pager.h")
+        for pattern, own in (r"hz_(?:pager_)?refusal", hojzmated.Refusal), ("hz_how", hojzmated.How):
+            enums = re.findall(rf"enum {pattern} \{{(.*?)\}};", headers, re.DOTALL)
+            wanted = {name: int(it) for name, it in re.findall(r"^ {4}HZ_(\w+) = (\d+)", "".join(enums), re.MULTILINE)}
+            wanted.pop("DONE", None)
+            self.assertEqual({it.name: it.value for it in own}, wanted)
+        self.assertEqual([(it.name, it.value) for it in hojzmated.Format], [("PLAIN", 1), ("NUMBERED", 2)])
+
+    # Each public call says what it takes and gives, so that a checker of types sees it. check/bindings runs one.
+    def test_annotations(self):
+        calls = [it for name in hojzmated.__all__ for it in self.calls_of(getattr(hojzmated, name))]
+        self.assertGreater(len(calls), 40)
+        for call in calls:
+            names = [it for it in inspect.signature(call).parameters if it != "self"] + ["return"]
+            self.assertEqual([it for it in names if it not in call.__annotations__], [], call.__qualname__)
+        self.assertTrue(os.path.exists(os.path.join(os.path.dirname(hojzmated.__file__), "py.typed")))
+
+    def calls_of(self, public):
+        """The functions that are this one, or those of this class that the module writes."""
+        if inspect.isfunction(public):
+            return [public]
+        found = [it.fget if isinstance(it, property) else it for it in vars(public).values()] if isinstance(
+            public, type) else []
+        return [it for it in found if inspect.isfunction(it) and "hojzmated" in it.__code__.co_filename]
+
+
+# ---- Refusals
+
+class Refusals(unittest.TestCase):
+    def test_pickles(self):
+        for refused in (
+            hojzmated.Refused(13), hojzmated.Refused(17, "it could not be read", 7, 5), hojzmated.Refused(999, "newer"),
+            hojzmated.Refused(hojzmated.Refusal.BUSY, page=1 << 63),
+        ):
+            refused.more = ["told by others"]
+            copies = [pickle.loads(pickle.dumps(refused, it)) for it in range(pickle.HIGHEST_PROTOCOL + 1)]
+            for found in [*copies, copy.copy(refused), copy.deepcopy(refused)]:
+                self.assertEqual((type(found), str(found)), (hojzmated.Refused, str(refused)))
+                self.assertEqual((found.number, found.page, found.errno, found.more),
+                                 (refused.number, refused.page, refused.errno, refused.more))
+
+    # A refusal in another process comes back, and the process goes on.
+    def test_refused_in_another_process(self):
+        spawned = multiprocessing.get_context("spawn")
+        with concurrent.futures.ProcessPoolExecutor(1, spawned) as processes:
+            for frames in 0, 65_537:
+                with self.assertRaises(hojzmated.Refused) as refused:
+                    processes.submit(hojzmated.count, [1], frames).result()
+                self.assertIs(refused.exception.number, hojzmated.Refusal.BAD_SETTINGS)
+                self.assertIn(f"frames is {frames:,}", str(refused.exception))
+            self.assertEqual(processes.submit(hojzmated.count, [1], 1).result(), (1, 0, 1, 0, 0))
+
+    def test_names_of_numbers(self):
+        refused = hojzmated.Refused(13)
+        self.assertIs(refused.number, hojzmated.Refusal.BUSY)
+        self.assertEqual((refused.number, f"{refused.number:d}"), (13, "13"))
+        self.assertEqual(hojzmated.Refused(999, "of a newer library").number, 999)
+
+    def told(self, number, call, *arguments, **named):
+        """The text with which a call is refused."""
+        with self.assertRaises(hojzmated.Refused) as refused:
+            call(*arguments, **named)
+        self.assertEqual(refused.exception.number, number)
+        return str(refused.exception).replace(f" (refusal {number})", "")
+
+    # The setting that is wrong is told, and its limits: of each of several.
+    def test_settings_of_a_pool(self):
+        for number, more, wanted in (
+            (1, {"pages": 0}, "pages is 0, and has to be from 1 to 1,048,576"),
+            (1, {"pages": 1_048_577}, "pages is 1,048,577, and has to be from 1 to 1,048,576"),
+            (2, {"frames": 65_537}, "frames is 65,537, and has to be from 1 to 65,536"),
+            (2, {"k": 17}, "k is 17, and has to be from 1 to 16"),
+            (2, {"clients": 0}, "clients is 0, and has to be from 1 to 64"),
+            (2, {"correlated": (1 << 62) + 1},
+             "correlated is 4,611,686,018,427,387,905, and has to be from 0 to 4,611,686,018,427,387,904"),
+            (2, {"retained": (1 << 62) + 1},
+             "retained is 4,611,686,018,427,387,905, and has to be from 0 to 4,611,686,018,427,387,904"),
+            (2, {"frames": 0, "k": 0},
+             "frames is 0, and has to be from 1 to 65,536; k is 0, and has to be from 1 to 16"),
+        ):
+            self.assertEqual(self.told(number, hojzmated.Pool, **{"pages": 8, "frames": 2, **more}), wanted)
+
+    def test_pages_and_clients_of_a_pool(self):
+        with hojzmated.Pool(pages=8, frames=2, clients=2) as pool:
+            for call in pool.fix, pool.discard, pool.is_resident:
+                self.assertEqual(self.told(45, call, 8), "the pool has no page 8: its pages are 0 to 7")
+            for call in (lambda: pool.fix(7, 2), lambda: pool.discard(7, 2), lambda: pool.tick(client=2),
+                         lambda: pool.purge(2)):
+                self.assertEqual(self.told(41, call), "the pool has no client 2: its clients are 0 to 1")
 
 
 if __name__ == "__main__":
