@@ -500,8 +500,12 @@ class Forks(Pages):
                     ):
                         self.assertIn(wanted, self.refused(50, call))
                     pager.close()
+                    self.assertEqual(made, [])
 
-                in_child(use)
+                # Nor is a call of the library made as threads of the parent end in the child.
+                made, unfix = [], pager._library.hz_pager_unfix
+                with mock.patch.object(pager._library, "hz_pager_unfix", lambda ref: made.append(ref.page) or unfix(ref)):
+                    in_child(use)
                 self.assertEqual(bytes(page.bytes[:8]), bytes([3]) * 8)
             is_over.set()
             waiting.join()
@@ -670,24 +674,32 @@ class Interrupts(Pages):
                 self.assertEqual(bytes(page.bytes[:8]), bytes([1]) * 8)
             thread.join()
 
-    # Threads that always want the page let the main thread have it; but not before they give back what they have, and
-    # one that asks for what it has is refused, and does not wait.
+    # Readers of whom one always has the page let the main thread have it. Else they come to their most, within a minute.
     def test_main_thread_has_its_turn(self):
         with self.pager() as pager:
-            is_over, is_fixed, said = threading.Event(), threading.Event(), []
+            most, rounds, is_over = 10_000, [], threading.Event()
 
             def want():
-                while not is_over.is_set():
-                    self.put(pager, 1)
+                while not is_over.is_set() and len(rounds) < most:
+                    with pager.read(1):
+                        time.sleep(0.002)
+                    rounds.append(1)
 
             threads = [threading.Thread(target=want) for _ in range(6)]
             for thread in threads:
                 thread.start()
-            for _ in range(20):
+            self.wait_till(lambda: len(rounds) > 6)
+            for _ in range(5):
                 self.put(pager, 1)
             is_over.set()
             for thread in threads:
                 thread.join()
+            self.assertLess(len(rounds), most)
+
+    # A thread that has the page which the main thread waits for is refused what it would be else, and does not wait.
+    def test_turn_of_the_main_thread_refuses(self):
+        with self.pager() as pager:
+            is_fixed, said = threading.Event(), []
 
             def ask():
                 with pager.read(2):
