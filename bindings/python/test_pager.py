@@ -504,7 +504,8 @@ class Forks(Pages):
 
                 # Nor is a call of the library made as threads of the parent end in the child.
                 made, unfix = [], pager._library.hz_pager_unfix
-                with mock.patch.object(pager._library, "hz_pager_unfix", lambda ref: made.append(ref.page) or unfix(ref)):
+                noted = mock.Mock(side_effect=lambda ref: made.append(ref.page) or unfix(ref))
+                with mock.patch.object(pager._library, "hz_pager_unfix", noted):
                     in_child(use)
                 self.assertEqual(bytes(page.bytes[:8]), bytes([3]) * 8)
             is_over.set()
@@ -630,6 +631,8 @@ class Interrupts(Pages):
             self.refused(72, pager.checkpoint)
             self.refused(72, pager.flush, 3)
             pager.flush(4)
+        with contextlib.suppress(hojzmated.Refused):  # unlike assertRaises it leaves the frames as they are
+            pager.discard(99)
         fd = pager._fd
         del pager
         self.assertRaises(OSError, os.fstat, fd)
@@ -674,7 +677,7 @@ class Interrupts(Pages):
                 self.assertEqual(bytes(page.bytes[:8]), bytes([1]) * 8)
             thread.join()
 
-    # Readers of whom one always has the page let the main thread have it. Else they come to their most, within a minute.
+    # Readers of whom one always has the page let the main thread have it. Else they come to their most first.
     def test_main_thread_has_its_turn(self):
         with self.pager() as pager:
             most, rounds, is_over = 10_000, [], threading.Event()
