@@ -11,7 +11,7 @@ import warnings
 import weakref
 from types import TracebackType
 from typing import TYPE_CHECKING, Any, Dict, Generic, List, NamedTuple, Optional, SupportsIndex, Type, TypeVar
-from typing import Union, cast
+from typing import Union
 
 from ._library import BYTE, Format, How, PagerConfig, PagerCounts, PagerHandle, Ref, Refusal, Refused, Setting
 from ._library import explained, number_of, pager_library, refusal_of
@@ -22,7 +22,9 @@ if TYPE_CHECKING:
 
 # Looking a member up in its class takes longer.
 SHARED, EXCLUSIVE, PINNED, TRY = (int(it) for it in How)
-BUSY, NO_VICTIM = int(Refusal.BUSY), int(Refusal.NO_VICTIM)
+NO_VICTIM = int(Refusal.NO_VICTIM)
+# What a call is refused with that would wait for other threads, where it is not to.
+WAITING = int(Refusal.BUSY), NO_VICTIM
 NEW = 0  # what `new_page` has in the place of these
 NO_PERIOD = (1 << 64) - 1
 HEAD = 16
@@ -113,7 +115,7 @@ class FixedPage(Generic[Lent]):
 
     def __init__(self, pager: Pager, ref: Ref) -> None:
         self._pager, self._ref, self.number = pager, ref, ref.page
-        self._view: Optional[memoryview] = None
+        self._view: Any = None
         self._memory: Optional[weakref.ref[Memory]] = None
         self._is_over = False
         if ref.bytes:
@@ -130,10 +132,11 @@ class FixedPage(Generic[Lent]):
     @property
     def bytes(self) -> Lent:
         """The bytes of the page in place, or None if it is only pinned."""
-        self._pager._check_process()
-        if self._is_over:
+        if self._is_over or self._pager._is_of_parent:
+            self._pager._check_process()
             raise Refused(Refusal.UNKNOWN_PASS, f"page {self.number} was given back", self.number)
-        return cast(Lent, self._view)
+        view: Lent = self._view
+        return view
 
     def put(self, offset: SupportsIndex, data: ReadableBuffer, lsn: SupportsIndex = 0) -> None:
         """Writes bytes into the page from the offset on. `data` is anything that has bytes in a row, such as an array.
@@ -141,6 +144,7 @@ class FixedPage(Generic[Lent]):
         Refused: 14 for a page that was given back, or that another thread fixed; 45 where they are not within the page;
         73 for a page that is not from `write` or `new_page`.
         """
+        self._pager._check_process()
         put = memoryview(data).cast("B").tobytes()
         offset, lsn = number_of("offset", offset), number_of("lsn", lsn)
         try:
@@ -154,14 +158,18 @@ class FixedPage(Generic[Lent]):
     def unfix(self) -> None:
         """Gives the page back, with its latch. Refused: 14 where it was given back already, or another thread fixed it.
         BufferError where a slice or an array of `bytes` is still there."""
-        self._pager._check_process()
-        is_own = self._ref.serial in _own.pages
-        if is_own and self._take_back() is not None:
-            raise BufferError(f"a slice of page {self.number} is still there: copy what is needed later")
-        self._is_over |= is_own
-        _own.pages.pop(self._ref.serial, None)
-        self._pager._call("hz_pager_unfix", self._ref)
-        self._pager._tell_free()
+        pager, serial, pages = self._pager, self._ref.serial, _own.pages
+        if pager._is_of_parent:
+            pager._check_process()
+        if serial in pages:
+            if self._take_back() is not None:
+                raise BufferError(f"a slice of page {self.number} is still there: copy what is needed later")
+            self._is_over = True
+            del pages[serial]
+        if pager._library.hz_pager_unfix(self._ref):
+            raise pager._refusal()
+        if pager._wanted is not None:
+            pager._is_free.set()
 
     def _take_back(self) -> Optional[Memory]:
         """Ends that the bytes are lent. Returns their memory, where something else has it that was made of them: then
@@ -194,7 +202,7 @@ class FixedPage(Generic[Lent]):
             is_kept.acquire()
         with self._pager._ending:
             self._pager._library.hz_pager_unfix(self._ref)
-        self._pager._tell_free()
+        self._pager._is_free.set()
 
     def __enter__(self) -> FixedPage[Lent]:
         return self
@@ -360,13 +368,12 @@ class Pager:
 
     def _call(self, name: str, *arguments: Any) -> None:
         """Makes a call of the library, and raises its refusal."""
-        if self._is_of_parent:
-            self._check_process()
         if getattr(self._library, name)(*arguments):
             raise self._refusal()
 
     def _refusal(self) -> Refused:
         """What this thread was refused last. For a page that the file has not, it says which there are."""
+        self._check_process()  # that it has no pager is not all there
         refused = refusal_of(self._library)
         if refused.number != Refusal.OUT_OF_PAGE or refused.page is None or refused.page < self.pages:
             return refused
@@ -433,46 +440,38 @@ class Pager:
                 fixed._is_over = True
                 fixed._take_back()
             self._library.hz_pager_unfix(ref)
-            self._tell_free()
+            self._is_free.set()
 
     def _fix(self, page: int, how: int, wait: bool, ref: Ref) -> None:
-        if not wait:
-            self._call("hz_pager_fix", self._pager, page, how | TRY, ref)
-            return
         is_main = _thread.get_ident() == _main
-        if self._wanted is not None and not is_main and how != PINNED:
+        if self._wanted is not None and wait and not is_main and how != PINNED:
             self._let_main_go_first(page)
         if how == NEW:
-            self._call("hz_pager_new_page", self._pager, page, ref)
-        elif is_main:
-            self._fix_in_main(page, how, ref)
+            number = self._library.hz_pager_new_page(self._pager, page, ref)
         else:
-            self._call("hz_pager_fix", self._pager, page, how, ref)
+            number = self._library.hz_pager_fix(self._pager, page, how | TRY if is_main or not wait else how, ref)
+        if number:
+            if not is_main or not wait or how == NEW or number not in WAITING:
+                raise self._refusal()
+            self._fix_in_main(page, how, ref)
 
     def _fix_in_main(self, page: int, how: int, ref: Ref) -> None:
-        """Fixes a page for the main thread, which waits by Python's means alone, so that a signal ends the wait."""
-        if self._is_fixed_at_once(page, how, ref):
-            return
+        """Fixes a page for the main thread, which has to wait for it. It waits by Python's means alone, and asks again
+        and again: so a signal ends the wait."""
         end = time.monotonic() + self._pin_wait
         with self._turn:
             self._wanted = page
             try:
-                while not self._is_fixed_at_once(page, how, ref, end):
+                while True:
+                    number = self._library.hz_pager_fix(self._pager, page, how | TRY, ref)
+                    if number == 0:
+                        return
+                    if number not in WAITING or number == NO_VICTIM and time.monotonic() >= end:
+                        raise self._refusal()
                     self._is_free.wait(PAUSE)
                     self._is_free.clear()
             finally:
                 self._wanted = None
-
-    def _is_fixed_at_once(self, page: int, how: int, ref: Ref, end: Optional[float] = None) -> bool:
-        """Fixes a page if that takes no waiting for others. At the end it is refused, where all that could make way are
-        pinned."""
-        self._check_process()
-        number = self._library.hz_pager_fix(self._pager, page, how | TRY, ref)
-        if number == 0:
-            return True
-        if number == BUSY or number == NO_VICTIM and (end is None or time.monotonic() < end):
-            return False
-        raise self._refusal()
 
     def _let_main_go_first(self, page: int) -> None:
         """Waits until the main thread has this page, or waits no longer. It has no place in the library's queue for the
@@ -480,11 +479,6 @@ class Pager:
         if page == self._wanted and not any(it._pager is self and it.number == page for it in _own.pages.values()):
             with self._turn:
                 pass
-
-    def _tell_free(self) -> None:
-        """Wakes the main thread, if it waits: a page was given back, which may be the one that it waits for."""
-        if self._wanted is not None:
-            self._is_free.set()
 
     def read(self, page: SupportsIndex, wait: bool = True) -> FixedPage[memoryview]:
         """Returns a page under its shared latch: other threads may read it too, and none writes to it.
