@@ -637,7 +637,7 @@ class Interrupts(Pages):
         del pager
         self.assertRaises(OSError, os.fstat, fd)
 
-    # A signal that comes just as the page was fixed leaves it to nobody.
+    # A signal that comes just as the page was fixed leaves it to nobody, and one as it is given back to its thread.
     def test_interrupt_as_a_page_is_fixed(self):
         with self.pager() as pager:
             real = pager._library.hz_pager_fix
@@ -650,6 +650,12 @@ class Interrupts(Pages):
                 with mock.patch.object(pager._library, "hz_pager_fix", interrupted_fix):
                     self.assertRaises(KeyboardInterrupt, getattr(pager, how), 1)
                 self.assertEqual(pager.stats().pinned, 0)
+            page = pager.write(3)
+            with mock.patch.object(pager._library, "hz_pager_unfix", side_effect=KeyboardInterrupt):
+                self.assertRaises(KeyboardInterrupt, page.unfix)
+            self.refused(14, lambda: page.bytes, page=3)
+            page.unfix()
+            self.refused(14, page.unfix)
             for name in "read", "new_page":
                 with mock.patch.object(_pager, "FixedPage", side_effect=KeyboardInterrupt):
                     self.assertRaises(KeyboardInterrupt, getattr(pager, name), 2)

@@ -165,9 +165,9 @@ class FixedPage(Generic[Lent]):
             if self._take_back() is not None:
                 raise BufferError(f"a slice of page {self.number} is still there: copy what is needed later")
             self._is_over = True
-            del pages[serial]
         if pager._library.hz_pager_unfix(self._ref):
             raise pager._refusal()
+        pages.pop(serial, None)  # last: until then a call that a signal interrupts can be made again
         if pager._wanted is not None:
             pager._is_free.set()
 
