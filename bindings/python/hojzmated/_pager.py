@@ -500,7 +500,8 @@ class Pager:
 
     def new_page(self, page: SupportsIndex) -> FixedPage[memoryview]:
         """Returns a page under its exclusive latch, as zeros, and does not read it. One that is in a frame is as it is
-        there. Put something there. Refused: as `read`."""
+        there. Put something there. Where all that could make way are pinned no signal ends the wait before `pin_wait`.
+        Refused: as `read`."""
         number = number_of("page", page)
         # If it is in a frame another thread may have its latch, and `write` waits for that so that a signal ends it.
         if _thread.get_ident() == _main and number < self.pages and self.is_resident(number):
