@@ -99,10 +99,10 @@ def place_of(name, is_of_loader):
 def stubs_for(wanted, own, folder):
     """The versions of the names that are wanted, for each library that is to be a stub. Failed where OLDEST has not one
     that is needed."""
-    of_loader, of_libc = versions_of(LOADER, folder), versions_of(LIBC, folder)
+    of_loader, *others = (versions_of(it, folder) for it in (LOADER, LIBC, THREADS, LOADING))
     stubs = {}
     for name in sorted(set(wanted) - own):
-        some = of_loader.get(name) or of_libc.get(name) or []
+        some = [version for it in (of_loader, *others) for version in it.get(name, [])]
         old = [version for version in some if version <= (2, OLDEST)]
         if old:
             stubs.setdefault(place_of(name, name in of_loader), {})[name] = max(old)
@@ -132,8 +132,8 @@ def older_pager(pager, soname):
         stubs = stubs_for(wanted_by(["pager.o", "older.o"], folder), own, folder)
         for library, names in stubs.items():
             make_stub(library, names, folder)
-        run(CC, "-shared", "-nodefaultlibs", f"-Wl,-soname,{soname}", "-Wl,--gc-sections", "pager.o", "older.o", *stubs,
-            "-lgcc_s", "-lgcc", "-o", soname, cwd=folder)
+        run(CC, "-shared", "-nodefaultlibs", f"-Wl,-soname,{soname}", "-Wl,--gc-sections", "-Wl,-z,defs", "pager.o",
+            "older.o", *stubs, "-lgcc_s", "-lgcc", "-o", soname, cwd=folder)
         return read(os.path.join(folder, soname))
 
 
