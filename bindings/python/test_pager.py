@@ -620,6 +620,40 @@ class Interrupts(Pages):
                 pager.close()
                 os.remove(self.path)
 
+    # Whatever such a call comes to is raised here.
+    def test_error_of_a_call_for_all_threads(self):
+        with self.pager() as pager:
+            with mock.patch.object(pager._library, "hz_pager_checkpoint", side_effect=MemoryError):
+                self.assertRaises(MemoryError, pager.checkpoint)
+
+    # A handler that runs as the main thread waits for a page may wait for another one.
+    def test_wait_in_a_handler(self):
+        with self.pager() as pager:
+            said, threads, is_over = [], [], threading.Event()
+
+            def hold(number, is_fixed, seconds):
+                with pager.write(number):
+                    is_fixed.set()
+                    is_over.wait(seconds)
+
+            for number, seconds in (1, 60), (2, 0.5):
+                is_fixed = threading.Event()
+                threads.append(threading.Thread(target=hold, args=(number, is_fixed, seconds)))
+                threads[-1].start()
+                is_fixed.wait()
+
+            def handle(*_):
+                self.put(pager, 2)
+                said.append(pager._wanted)
+                is_over.set()
+
+            self.addCleanup(signal.signal, signal.SIGUSR1, signal.signal(signal.SIGUSR1, handle))
+            threading.Timer(0.1, os.kill, (os.getpid(), signal.SIGUSR1)).start()
+            self.put(pager, 1)
+            for thread in threads:
+                thread.join()
+            self.assertEqual((said, pager._wanted), ([1], None))
+
     # A refusal of such a call comes as that of any other, and keeps nothing alive.
     def test_refusals_of_calls_for_all_threads(self):
         pager = self.pager(pin_wait=0.01)

@@ -226,13 +226,13 @@ class _Call:
     def __init__(self, pager: Pager, name: str, arguments: Any) -> None:
         self.pager, self.name, self.arguments = pager, name, arguments
         self.is_done = threading.Event()
-        self.refused: Optional[Refused] = None
+        self.error: Optional[BaseException] = None
 
     def make(self) -> None:
         try:
             self.pager._call(self.name, *self.arguments)
-        except Refused as it:
-            self.refused = it
+        except BaseException as it:
+            self.error = it
         finally:
             self.is_done.set()
 
@@ -303,7 +303,7 @@ class Pager:
         self._calls: weakref.WeakSet[_Call] = weakref.WeakSet()
         # The page that the main thread waits for, while it has the turn; and that a page was given back meanwhile.
         self._wanted: Optional[int] = None
-        self._turn, self._is_free = threading.Lock(), threading.Event()
+        self._turn, self._is_free = threading.RLock(), threading.Event()
         self._ending = threading.Lock()  # pages of threads that end are given back, or the pager is freed
         self._fd: Optional[int] = None
         _pagers.add(self)
@@ -390,7 +390,7 @@ class Pager:
     def _leave(self) -> None:
         """Has the pager be that of the parent, in a child that was forked."""
         self._is_of_parent, self._pager.own = True, None
-        self._turn, self._ending = threading.Lock(), threading.Lock()  # threads of the parent may have had these
+        self._turn, self._ending = threading.RLock(), threading.Lock()  # threads of the parent may have had these
         self._close_file()
 
     def _call_apart(self, name: str, *arguments: Any) -> None:
@@ -406,12 +406,12 @@ class Pager:
         except RuntimeError:  # as the interpreter ends
             call.make()
         call.is_done.wait()
-        refused, call.refused = call.refused, None
-        if refused is not None:
+        error, call.error = call.error, None
+        if error is not None:
             try:
-                raise refused
+                raise error
             finally:
-                del refused  # else it and this frame keep each other
+                del error  # else it and this frame keep each other
 
     def _has_exclusive(self, page: Optional[int] = None) -> bool:
         """Whether this thread has the exclusive latch of this page, or of any page of the pager."""
@@ -460,7 +460,7 @@ class Pager:
         and again: so a signal ends the wait."""
         end = time.monotonic() + self._pin_wait
         with self._turn:
-            self._wanted = page
+            before, self._wanted = self._wanted, page  # another one, in a handler of a signal
             try:
                 while True:
                     number = self._library.hz_pager_fix(self._pager, page, how | TRY, ref)
@@ -471,7 +471,7 @@ class Pager:
                     self._is_free.wait(PAUSE)
                     self._is_free.clear()
             finally:
-                self._wanted = None
+                self._wanted = before
 
     def _let_main_go_first(self, page: int) -> None:
         """Waits until the main thread has this page, or waits no longer. It has no place in the library's queue for the
