@@ -47,7 +47,8 @@ def text_of(*path):
 # ---- The sweeps of check/program.cases
 
 def escaped(text):
-    return text.replace("\\r", "\r").replace("\\n", "\n").removesuffix("\\")
+    text = text.replace("\\r", "\r").replace("\\n", "\n")
+    return text[:-1] if text.endswith("\\") else text
 
 
 def blocks_of(cases):
