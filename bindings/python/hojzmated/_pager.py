@@ -395,7 +395,7 @@ class Pager:
 
     def _call_apart(self, name: str, *arguments: Any) -> None:
         """Makes a call that may wait for other threads. The main thread has another one make it, so that a signal ends
-        the wait: that takes some 50 us more."""
+        the wait: that takes some tens of microseconds more."""
         if _thread.get_ident() != _main:
             self._call(name, *arguments)
             return
