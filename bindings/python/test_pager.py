@@ -529,6 +529,18 @@ class Forks(Pages):
             page.unfix()
         self.assertEqual(self.in_file(), [3])
 
+    # One that was closed before is closed there too, and no more.
+    def test_closed_pager_in_a_child(self):
+        with self.pager() as pager:
+            pager.close()
+
+            def use():
+                self.assertIn("the handle has no pager", self.refused(50, pager.stats))
+                with pager:
+                    pass
+
+            in_child(use)
+
     # A child has no descriptor of the parent's file, and makes a pager of its own.
     def test_pager_of_a_child(self):
         other = os.path.join(self.folder.name, "other")

@@ -15,7 +15,7 @@ from typing import Union
 
 from ._library import BYTE, Format, How, PagerConfig, PagerCounts, PagerHandle, Ref, Refusal, Refused, Setting
 from ._library import explained, number_of, pager_library, refusal_of
-from ._pool import LARGEST_PERIOD, MOST_FRAMES, MOST_K, MOST_PAGES, ratio
+from ._pool import LARGEST_PERIOD, LEAST_PAGE, MOST_FRAMES, MOST_K, MOST_PAGES, ratio
 
 if TYPE_CHECKING:
     from _typeshed import ReadableBuffer
@@ -333,7 +333,7 @@ class Pager:
         pages, parts = config.pages or self._pages_of_file(), config.parts or MOST_PARTS
         found = [
             Setting("pages" if config.pages else "the number of pages of the file", pages, 1, parts * MOST_PAGES),
-            Setting("page_size", config.page_size, HEAD, MOST_PAGE, HEAD),
+            Setting("page_size", config.page_size, LEAST_PAGE, MOST_PAGE, LEAST_PAGE),
             Setting("frames", config.frames, 1, parts * MOST_FRAMES), Setting("k", config.k, 1, MOST_K),
             Setting("format", format, Format.PLAIN, Format.NUMBERED)]
         if config.parts:
@@ -388,8 +388,8 @@ class Pager:
                                            "forked: it has to make one of its own")
 
     def _leave(self) -> None:
-        """Has the pager be that of the parent, in a child that was forked."""
-        self._is_of_parent, self._pager.own = True, None
+        """Has the pager be that of the parent, in a child that was forked, if it was not closed before."""
+        self._is_of_parent, self._pager.own = self._pager.own is not None, None
         self._turn, self._ending = threading.RLock(), threading.Lock()  # threads of the parent may have had these
         self._close_file()
 
