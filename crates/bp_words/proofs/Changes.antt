@@ -1,5 +1,5 @@
 -- What a step on the word does to the rule of a frame.
-use Rattle.std.proofs.Common.{◌≡◌, ◌≢◌, ℕ, zero, suc, ◌+◌, ◌-◌, ◌/◌, ◌%◌, ◌<◌, ◌≤◌, List, [], ◌∷◌, ◌++◌, set, refl, sym, ap, ◌∙◌, subst, ⊎_elim, arith}
+use Rattle.std.proofs.Common.{◌≡◌, ◌≢◌, ◌⊎◌, ℕ, zero, suc, ◌+◌, ◌-◌, ◌/◌, ◌%◌, ◌<◌, ◌≤◌, List, [], ◌∷◌, ◌++◌, set, refl, sym, ap, ◌∙◌, subst, ⊎_elim, arith}
 use Rattle.std.specs.Prelude.{slice_index}
 use mathlib.Core.Option.{some}
 use lib.ListN.{get_elem?}
@@ -9,9 +9,10 @@ use native.Mathlib.Decide.{ℕ_discrete}
 use Rattle.atomic_table.specs.Table.{State}
 use Rattle.atomic_table.proofs.Lists.{at_set, at_snoc, set_again}
 use Rattle.bp_words.specs.declared.views.View.{View}
-use Rattle.bp_words.specs.Views.{blind, in_readers, in_pins}
+use Rattle.bp_words.specs.Fields.{some_of}
+use Rattle.bp_words.specs.Views.{blind, waiting, in_readers, in_pins}
 use Rattle.bp_words.specs.Rule.{total, out_of, Sound, Fits, AllFit, FrameRule}
-use Rattle.bp_words.proofs.Totals.{total_set, total_at, total_le, total_plus}
+use Rattle.bp_words.proofs.Totals.{total_set, total_at, total_le, total_plus, total_zero, total_two, total_only}
 
 abbrev pub St : Type 0
 St = State ℕ View
@@ -53,14 +54,20 @@ pub record Local (n : ℕ) (v w : View) (n' : ℕ) : Type 0 where
   pub writes_up : v.writes < w.writes → (n % 1048576 ≡ 0) × (w.reads ≡ 0)
   pub pins_up : v.pins + v.halves < w.pins + w.halves → (n / 1048576 % 1048576 < 524288) × (w.pins + w.halves ≤ v.pins + v.halves + 1)
   pub tickets : w.tickets ≡ v.tickets
+  pub flag : ((n' / 2199023255552 % 2 ≡ n / 2199023255552 % 2) × (waiting w ≡ waiting v)) ⊎ ((v.queues ≡ 1) × (n' / 2199023255552 % 2 ≡ some_of (waiting w)))
+  pub queues : w.queues ≡ v.queues
 
--- a total of what is in no view
-pub total_zero : (f : View → ℕ) (views : List View) → ((seat : ℕ) (v : View) → get_elem? views seat ≡ some v → f v ≡ 0) → total f views ≡ 0
-total_zero f [] each = refl
-total_zero f (x ∷ xs) each =
-    let first : f x ≡ 0 = each 0 x refl in
-    let rest = total_zero f xs (λ seat v there. each (suc seat) v there) in
-    omega arith
+none : (n : ℕ) → (0 < n → ⊥) → n ≡ 0
+none zero never = refl
+none (suc n) never = absurd (never (omega arith))
+
+-- All that wait do so in the queue.
+pub only_queue : (s : St) (rule : FrameRule s) (id : ℕ) (v : View) → get_elem? s.views id ≡ some v → v.queues ≡ 1 → total waiting s.views ≡ waiting v
+only_queue s rule id v there mine = total_only waiting s.views id v there (λ seat u apart at. none (waiting u) (λ some_wait.
+    let theirs = (rule.fit seat u at).queue some_wait in
+    let both = total_two (λ x. x.queues) s.views id seat v u (λ e. apart (sym e)) there at in
+    let one = rule.sound.one_queue in
+    omega arith))
 
 -- What takes a ticket is no more than there are.
 pub blind_few : (s : St) (rule : FrameRule s) → total blind s.views ≤ total (λ v. v.tickets) s.views
@@ -78,7 +85,7 @@ reads_few views = total_le (λ v. v.reads) in_readers views (λ seat v there. om
 -- A count of shares has room for one more, if a thread with a ticket has none there yet.
 pub spare_ticket : (s : St) (rule : FrameRule s) (id : ℕ) (v : View) → get_elem? s.views id ≡ some v → blind v < v.tickets → total blind s.views < 262143
 spare_ticket s rule id v there few =
-    let w : View = record { reads = v.reads; halves = v.halves; strays = v.strays + 1; pins = v.pins; loose = v.loose; writes = v.writes; tickets = v.tickets; waits = v.waits; tends = v.tends; page = v.page; stored = v.stored } in
+    let w : View = record { reads = v.reads; halves = v.halves; strays = v.strays + 1; pins = v.pins; loose = v.loose; writes = v.writes; tickets = v.tickets; waits = v.waits; wants = v.wants; queues = v.queues; tends = v.tends; page = v.page; stored = v.stored } in
     let b = total_set blind s.views id v w there in
     let t = total_set (λ u. u.tickets) s.views id v w there in
     let fits = (rule.fit id v there) in
@@ -120,6 +127,8 @@ sound_step s rule id n' v w there local =
     let ed = total_set (λ u. u.reads) s.views id v w there in
     let eh = total_set (λ u. u.pins + u.halves) s.views id v w there in
     let et = total_set (λ u. u.tickets) s.views id v w there in
+    let eq = total_set (λ u. u.queues) s.views id v w there in
+    let ei = total_set waiting s.views id v w there in
     let ea = total_set (λ u. u.reads + u.waits) s.views id v w there in
     let pa = total_plus (λ u. u.reads) (λ u. u.waits) s.views in
     let la : total (λ u. u.waits) s.views ≤ total blind s.views = total_le (λ u. u.waits) blind s.views (λ seat u at. omega arith) in
@@ -136,6 +145,8 @@ sound_step s rule id n' v w there local =
     let o5 = old.few in
     let o7 = old.few_pins in
     let o8 = old.tickets in
+    let o9 = old.one_queue in
+    let l9 = local.queues in
     let l1 = local.readers in
     let l2 = local.pins in
     let l3 = local.writers in
@@ -156,6 +167,11 @@ sound_step s rule id n' v w there local =
           (λ (up : v.pins + v.halves < w.pins + w.halves). let u = local.pins_up up in let few = u.0 in let one = u.1 in omega arith)
           (λ (no : w.pins + w.halves ≤ v.pins + v.halves). omega arith);
       tickets = omega arith;
+      queued = ⊎_elim
+          (λ (as_before : (n' / 2199023255552 % 2 ≡ n / 2199023255552 % 2) × (waiting w ≡ waiting v)). let same = as_before.1 in as_before.0 ∙ (old.queued ∙ ap some_of (omega arith)))
+          (λ (mine : (v.queues ≡ 1) × (n' / 2199023255552 % 2 ≡ some_of (waiting w))). let only = only_queue s rule id v there mine.0 in mine.1 ∙ ap some_of (omega arith))
+          local.flag;
+      one_queue = omega arith;
     }
   where
     by_order : {P : Type 0} (a b : ℕ) → (a < b → P) → (b ≤ a → P) → P
@@ -184,10 +200,6 @@ home_fits s rule home =
     let is = rule.sound.pins in
     let tickets = rule.sound.tickets in
     omega arith
-  where
-    none : (n : ℕ) → (0 < n → ⊥) → n ≡ 0
-    none zero never = refl
-    none (suc n) never = absurd (never (omega arith))
 
 -- A step on the word that leaves its pass as it was.
 pub changed : (s : St) (rule : FrameRule s) (id n' : ℕ) (v w : View) → get_elem? s.views id ≡ some v → Local rule.word v w n' → out_of n' ≡ out_of rule.word → Fits (out_of rule.word) rule.page id w
@@ -203,8 +215,8 @@ changed s rule id n' v w there local same fits = record {
 -- The same totals say the same.
 pub resound : (views views' : List View) (n : ℕ) → total in_readers views' ≡ total in_readers views → total in_pins views' ≡ total in_pins views → total (λ v. v.writes) views' ≡ total (λ v. v.writes) views
     → total (λ v. v.reads) views' ≡ total (λ v. v.reads) views → total (λ v. v.reads + v.waits) views' ≡ total (λ v. v.reads + v.waits) views → total (λ v. v.pins + v.halves) views' ≡ total (λ v. v.pins + v.halves) views
-    → total (λ v. v.tickets) views' ≡ total (λ v. v.tickets) views → Sound views n → Sound views' n
-resound views views' n er ep ew ed ea eh et old = record {
+    → total (λ v. v.tickets) views' ≡ total (λ v. v.tickets) views → total waiting views' ≡ total waiting views → total (λ v. v.queues) views' ≡ total (λ v. v.queues) views → Sound views n → Sound views' n
+resound views views' n er ep ew ed ea eh et ei eq old = record {
   readers = old.readers ∙ sym er;
   pins = old.pins ∙ sym ep;
   writers = old.writers ∙ sym ew;
@@ -213,4 +225,6 @@ resound views views' n er ep ew ed ea eh et old = record {
   few = subst (λ (k : ℕ). k ≤ 786431) (sym ea) old.few;
   few_pins = subst (λ (k : ℕ). k ≤ 786431) (sym eh) old.few_pins;
   tickets = subst (λ (k : ℕ). k ≤ 262143) (sym et) old.tickets;
+  queued = old.queued ∙ ap some_of (sym ei);
+  one_queue = subst (λ (k : ℕ). k ≤ 1) (sym eq) old.one_queue;
 }

@@ -1,14 +1,15 @@
 -- The keeper's steps keep the rule of a frame.
-use Rattle.std.proofs.Common.{◌≡◌, ◌≢◌, ℕ, zero, suc, ◌+◌, ◌-◌, ◌/◌, ◌%◌, ◌<◌, ◌≤◌, ◌^◌, Bool, true, false, List, set, Option, Some, None, refl, sym, ap, ◌∙◌, subst, arith}
+use Rattle.std.proofs.Common.{◌≡◌, ◌≢◌, ℕ, zero, suc, ◌+◌, ◌-◌, ◌/◌, ◌%◌, ◌<◌, ◌≤◌, ◌^◌, Bool, true, false, List, set, Option, Some, None, refl, sym, ap, ◌∙◌, subst, inl, arith}
 use Rattle.std.specs.Prelude.{slice_index, ◌==◌}
 use mathlib.Core.Option.{some, none}
 use lib.ListN.{get_elem?}
 use prog.Atomic.{either}
 use Rattle.atomic_table.specs.Table.{Me, Act, step, keeps, stepped, Valid, carried_after, Allows, Splits}
 use Rattle.atomic_table.proofs.Lists.{exchanged}
+use Rattle.std.proofs.Math.Dec.{eqb-suc-zero}
 use Rattle.bp_words.specs.declared.views.View.{View}
-use Rattle.bp_words.specs.Fields.{packed, fields, IsUnused, one_if, one_unless}
-use Rattle.bp_words.specs.Views.{idle, held, keeper, uses, in_readers, in_pins, FindsHome, Stores, Begins, Ends}
+use Rattle.bp_words.specs.Fields.{packed, fields, IsUnused, one_if, one_unless, some_of}
+use Rattle.bp_words.specs.Views.{idle, held, keeper, uses, waiting, in_readers, in_pins, FindsHome, Stores, Begins, Ends}
 use Rattle.bp_words.specs.Rule.{total, out_of, Fits, FrameRule}
 use Rattle.bp_words.proofs.Totals.{total_set, total_at}
 use Rattle.bp_words.proofs.Changes.{St, Local, fit_set, resound, sound_step, unmoved, first_word, home_fits}
@@ -16,7 +17,7 @@ use Rattle.bp_words.proofs.Steps.{not_yes, parts_of, stray_fits}
 use Rattle.bp_words.proofs.Parts.{split_kept}
 
 keeper_fits : (pass page p t stored : ℕ) (given_to : Option ℕ) → stored ≡ page → (0 < p → (pass ≡ 1) × (given_to ≡ Some page)) → (pass ≡ 1 → given_to ≡ Some page) → (pass ≡ 0 → given_to ≡ None) → Fits pass page 0 (keeper p t given_to stored)
-keeper_fits pass page p t stored given_to told used out home = record { used = λ some_use. used (omega arith); blind = omega arith; keeper = λ _. (refl, told); out = λ _. out; home = λ _. home }
+keeper_fits pass page p t stored given_to told used out home = record { used = λ some_use. used (omega arith); blind = omega arith; queue = λ up. absurd (omega arith); keeper = λ _. (refl, told); out = λ _. out; home = λ _. home }
 
 -- The keeper of a frame that is given to no page.
 home_even : (word page seat : ℕ) (v : View) → Fits (out_of word) page seat v → v.tends ≡ true → v.page ≡ None → out_of word ≡ 0
@@ -44,6 +45,7 @@ others_at_home : (pass page page' seat : ℕ) (u : View) → pass ≡ 0 → seat
 others_at_home pass page page' seat u home apart fits pass' = record {
   used = λ some_use. let odd = (fits.used some_use).0 in absurd (omega arith);
   blind = fits.blind;
+  queue = fits.queue;
   keeper = λ tends. absurd (apart (fits.keeper tends).0);
   out = λ tends odd. absurd (apart (fits.keeper tends).0);
   home = λ tends even. absurd (apart (fits.keeper tends).0);
@@ -66,7 +68,7 @@ store_kept slots id new t stored me is s rule homes there small =
         word = rule.word;
         page = new;
         words = ap (λ words. set words 1 new) rule.words;
-        sound = resound s.views views' rule.word (still in_readers s.views id v w at refl) (still in_pins s.views id v w at refl) (still (λ u. u.writes) s.views id v w at refl) (still (λ u. u.reads) s.views id v w at refl) (still (λ u. u.reads + u.waits) s.views id v w at refl) (still (λ u. u.pins + u.halves) s.views id v w at refl) (still (λ u. u.tickets) s.views id v w at same_t) rule.sound;
+        sound = resound s.views views' rule.word (still in_readers s.views id v w at refl) (still in_pins s.views id v w at refl) (still (λ u. u.writes) s.views id v w at refl) (still (λ u. u.reads) s.views id v w at refl) (still (λ u. u.reads + u.waits) s.views id v w at refl) (still (λ u. u.pins + u.halves) s.views id v w at refl) (still (λ u. u.tickets) s.views id v w at same_t) (still waiting s.views id v w at refl) (still (λ u. u.queues) s.views id v w at refl) rule.sound;
         fit = fit_set (out_of rule.word) new s.views id w (λ seat u other at_seat. others_at_home (out_of rule.word) rule.page new seat u home (λ z. other (z ∙ sym first)) (rule.fit seat u at_seat) (out_of rule.word))
             (subst (λ (k : ℕ). Fits (out_of rule.word) new k w) (sym first) (keeper_fits (out_of rule.word) new 0 me.0.tickets new None refl (λ up. absurd (omega arith)) (λ odd. absurd (omega arith)) (λ _. refl)));
       },
@@ -94,7 +96,8 @@ begun s rule id t stored next b at lb small made =
     let e2 : next / 1099511627776 % 2 ≡ n / 1099511627776 % 2 = ap (λ (k : ℕ). k / 1099511627776 % 2) made ∙ e.2 in
     let e3 : next / 4398046511104 % 2 ≡ 1 = ap (λ (k : ℕ). k / 4398046511104 % 2) made ∙ e.3 in
     let e4 : next / 8796093022208 % 2 ≡ b = ap (λ (k : ℕ). k / 8796093022208 % 2) made ∙ e.4 in
-    let l : Local n v w next = record { readers = ap (λ (k : ℕ). k + 0) e0; pins = omega arith; writers = ap (λ (k : ℕ). k + 0) e2; staying = omega arith; reads_up = λ up. absurd (omega arith); more = λ up. absurd (omega arith); writes_up = λ up. absurd (omega arith); pins_up = λ _. (omega arith, omega arith); tickets = refl } in
+    let e5 : next / 2199023255552 % 2 ≡ n / 2199023255552 % 2 = ap (λ (k : ℕ). k / 2199023255552 % 2) made ∙ e.5 in
+    let l : Local n v w next = record { readers = ap (λ (k : ℕ). k + 0) e0; pins = omega arith; writers = ap (λ (k : ℕ). k + 0) e2; staying = omega arith; reads_up = λ up. absurd (omega arith); more = λ up. absurd (omega arith); writes_up = λ up. absurd (omega arith); pins_up = λ _. (omega arith, omega arith); tickets = refl; flag = inl (e5, refl); queues = refl } in
     record {
       word = next;
       page = rule.page;
@@ -137,7 +140,8 @@ ended s rule id t stored next page at unused small made =
     let e2 : next / 1099511627776 % 2 ≡ n / 1099511627776 % 2 = ap (λ (k : ℕ). k / 1099511627776 % 2) made ∙ e.2 in
     let e3 : next / 4398046511104 % 2 ≡ 0 = ap (λ (k : ℕ). k / 4398046511104 % 2) made ∙ e.3 in
     let e4 : next / 8796093022208 % 2 ≡ 0 = ap (λ (k : ℕ). k / 8796093022208 % 2) made ∙ e.4 in
-    let l : Local n v w next = record { readers = ap (λ (k : ℕ). k + 0) e0; pins = ap (λ (k : ℕ). k + 0) e1; writers = ap (λ (k : ℕ). k + 0) e2; staying = omega arith; reads_up = λ up. absurd (omega arith); more = λ up. absurd (omega arith); writes_up = λ up. absurd (omega arith); pins_up = λ up. absurd (omega arith); tickets = refl } in
+    let e5 : next / 2199023255552 % 2 ≡ n / 2199023255552 % 2 = ap (λ (k : ℕ). k / 2199023255552 % 2) made ∙ e.5 in
+    let l : Local n v w next = record { readers = ap (λ (k : ℕ). k + 0) e0; pins = ap (λ (k : ℕ). k + 0) e1; writers = ap (λ (k : ℕ). k + 0) e2; staying = omega arith; reads_up = λ up. absurd (omega arith); more = λ up. absurd (omega arith); writes_up = λ up. absurd (omega arith); pins_up = λ up. absurd (omega arith); tickets = refl; flag = inl (e5, refl); queues = refl } in
     record {
       word = next;
       page = rule.page;
@@ -161,6 +165,7 @@ ended s rule id t stored next page at unused small made =
     others seat u none_used apart fits = record {
       used = λ some_use. absurd (omega arith);
       blind = fits.blind;
+      queue = fits.queue;
       keeper = λ tends. absurd (apart (fits.keeper tends).0);
       out = λ tends odd. absurd (apart (fits.keeper tends).0);
       home = λ tends even. absurd (apart (fits.keeper tends).0);
@@ -187,18 +192,18 @@ end_kept slots id t stored seen next page me is unused small made s rule homes t
 pub admit_split : (id p t stored : ℕ) (given_to : Option ℕ) (v : View) → v ≡ keeper p t given_to stored → 0 < t → Splits FrameRule id v (keeper v.pins (v.tickets - 1) v.page v.stored) idle
 admit_split id p t stored given_to v is some_left = subst (λ (x : View). Splits FrameRule id x (keeper x.pins (x.tickets - 1) x.page x.stored) idle) (sym is)
     (split_kept id (keeper p t given_to stored) (keeper p (t - 1) given_to stored) idle
-    (record { readers = refl; pins = omega arith; writes = refl; reads = refl; waits = refl; kept = omega arith; tickets = omega arith })
-    (λ pass page fits. record { used = fits.used; blind = omega arith; keeper = fits.keeper; out = fits.out; home = fits.home })
+    (record { readers = refl; pins = omega arith; writes = refl; reads = refl; waits = refl; kept = omega arith; tickets = omega arith; waiting_both = omega arith; queues = omega arith })
+    (λ pass page fits. record { used = fits.used; blind = omega arith; queue = λ up. absurd (omega arith); keeper = fits.keeper; out = fits.out; home = fits.home })
     (λ pass page seat fits. stray_fits pass page seat 0 0 1 (omega arith)))
 
 -- The keeper gives out a share that it has, of whose page it took note.
-pub give_split : (id r p w t page : ℕ) (v : View) → v.reads ≡ r → v.pins ≡ p → v.writes ≡ w → v.halves ≡ 0 → v.strays ≡ 0 → v.loose ≡ 0 → v.waits ≡ 0 → v.tends ≡ true → 0 < r + p + w
+pub give_split : (id r p w t page : ℕ) (v : View) → v.reads ≡ r → v.pins ≡ p → v.writes ≡ w → v.halves ≡ 0 → v.strays ≡ 0 → v.loose ≡ 0 → v.waits + (v.wants + v.queues) ≡ 0 → v.tends ≡ true → 0 < r + p + w
     → Splits FrameRule id v (keeper 0 v.tickets v.page v.stored) (held v.reads v.pins v.writes v.stored)
 give_split id r p w t page v er ep ew eh es el ea tends some_share =
     split_kept id v (keeper 0 v.tickets v.page v.stored) (held v.reads v.pins v.writes v.stored)
-    (record { readers = omega arith; pins = omega arith; writes = omega arith; reads = omega arith; waits = omega arith; kept = omega arith; tickets = omega arith })
-    (λ pass page' fits. let mine = fits.keeper tends in record { used = λ up. absurd (omega arith); blind = omega arith; keeper = λ _. mine; out = λ _ odd. fits.out tends odd; home = λ _ even. fits.home tends even })
-    (λ pass page' seat fits. let mine = fits.keeper tends in let used = fits.used (omega arith) in record { used = λ _. (used.0, ap (λ (k : ℕ). Some k) mine.1); blind = omega arith; keeper = λ e. absurd (not_yes e); out = λ e. absurd (not_yes e); home = λ e. absurd (not_yes e) })
+    (record { readers = omega arith; pins = omega arith; writes = omega arith; reads = omega arith; waits = omega arith; kept = omega arith; tickets = omega arith; waiting_both = omega arith; queues = omega arith })
+    (λ pass page' fits. let mine = fits.keeper tends in record { used = λ up. absurd (omega arith); blind = omega arith; queue = λ up. absurd (omega arith); keeper = λ _. mine; out = λ _ odd. fits.out tends odd; home = λ _ even. fits.home tends even })
+    (λ pass page' seat fits. let mine = fits.keeper tends in let used = fits.used (omega arith) in record { used = λ _. (used.0, ap (λ (k : ℕ). Some k) mine.1); blind = omega arith; queue = λ up. absurd (omega arith); keeper = λ e. absurd (not_yes e); out = λ e. absurd (not_yes e); home = λ e. absurd (not_yes e) })
 
 pub one_if_small : (b : Bool) → one_if b < 2
 one_if_small true = omega arith
@@ -207,3 +212,8 @@ one_if_small false = omega arith
 pub one_unless_small : (b : Bool) → one_unless b < 2
 one_unless_small true = omega arith
 one_unless_small false = omega arith
+
+-- Whether there is none, as the code asks it.
+pub unless_none : (n : ℕ) → one_unless (n == 0) ≡ some_of n
+unless_none zero = refl
+unless_none (suc n) = ap one_unless (eqb-suc-zero n)

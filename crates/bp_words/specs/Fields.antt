@@ -1,5 +1,5 @@
 -- The fields of a seat's word, and what they say.
-use Rattle.std.specs.Prelude.{◌≡◌, ◌≢◌, ℕ, ◌+◌, ◌*◌, ◌/◌, ◌%◌, ◌<◌, true, false, Bool}
+use Rattle.std.specs.Prelude.{◌≡◌, ◌≢◌, ℕ, zero, suc, ◌+◌, ◌*◌, ◌/◌, ◌%◌, ◌<◌, true, false, Bool}
 
 -- the counts of shares, and what is so of the page's pass
 pub record Fields : Type 0 where
@@ -71,3 +71,8 @@ one_unless false = 1
 abbrev pub one_if : Bool → ℕ
 one_if true = 1
 one_if false = 0
+
+-- whether there are some
+abbrev pub some_of : ℕ → ℕ
+some_of zero = 0
+some_of (suc n) = 1

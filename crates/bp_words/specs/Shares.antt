@@ -20,10 +20,11 @@ pub record ShareValue : Type 0 where
 pub record VisitorValue : Type 0 where
   pub frame : FrameName
 
--- a queue: how many wait, and how many were let in
+-- a queue: how many wait to read and to write, and how many readers were let in
 pub record QueueValue : Type 0 where
   pub frame : FrameName
   pub waiting : ℕ
+  pub writers : ℕ
   pub granted : ℕ
 
 abbrev pub given : Option ℕ → ℕ

@@ -1,7 +1,7 @@
 -- What a seat of a frame knows, and how each kind of step changes it.
-use Rattle.std.specs.Prelude.{◌≡◌, ◌≢◌, ℕ, ◌+◌, ◌<◌, ◌≤◌, true, false, Option, Some, None}
+use Rattle.std.specs.Prelude.{◌≡◌, ◌≢◌, ℕ, ◌+◌, ◌-◌, ◌<◌, ◌≤◌, true, false, Option, Some, None}
 use Rattle.bp_words.specs.Shares.{given}
-use Rattle.bp_words.specs.Fields.{fields, IsReadable, IsPinnable}
+use Rattle.bp_words.specs.Fields.{fields, IsReadable, IsPinnable, some_of}
 use Rattle.atomic_table.specs.Table.{Me, Step}
 use Rattle.bp_words.specs.declared.views.View.{View}
 
@@ -18,6 +18,8 @@ guest r h s p l w t page =
       writes = w;
       tickets = t;
       waits = 0;
+      wants = 0;
+      queues = 0;
       tends = false;
       page = page;
       stored = 0;
@@ -47,27 +49,40 @@ keeper p t page stored =
       writes = 0;
       tickets = t;
       waits = 0;
+      wants = 0;
+      queues = 0;
       tends = true;
       page = page;
       stored = stored;
     }
 
--- a queue: so many threads that wait for a shared latch, and so many that were let in, each with its pin and its ticket
-abbrev pub queue : ℕ → ℕ → Option ℕ → View
-queue n g page =
+-- the first seat: a keeper with so many tickets, which gave the frame to no page and has the queue too
+abbrev pub founder : ℕ → View
+founder t = record (keeper 0 t None 0) { queues = 1 }
+
+-- the queue: so many threads wait for a shared latch and for the exclusive one, and so many readers were let in; so many
+-- came in beside these, and such a share that writes is there; each of these threads has its pin and its ticket
+abbrev pub queue : ℕ → ℕ → ℕ → ℕ → ℕ → Option ℕ → View
+queue n m g e w page =
     record {
       reads = g;
       halves = 0;
       strays = 0;
-      pins = n + g;
+      pins = n + m + g + e;
       loose = 0;
-      writes = 0;
-      tickets = n + g;
+      writes = w;
+      tickets = n + m + g + e;
       waits = n;
+      wants = m;
+      queues = 1;
       tends = false;
       page = page;
       stored = 0;
     }
+
+-- all that wait
+abbrev pub waiting : View → ℕ
+waiting v = v.waits + v.wants
 
 -- all shares of a seat that keep the page in the frame
 abbrev pub uses : View → ℕ
@@ -174,6 +189,8 @@ joined v w =
       writes = v.writes + w.writes;
       tickets = v.tickets + w.tickets;
       waits = v.waits + w.waits;
+      wants = v.wants + w.wants;
+      queues = v.queues + w.queues;
       tends = v.tends;
       page = v.page;
       stored = given w.page;
@@ -187,18 +204,19 @@ Compares step before found after =
     × (before.0.tends ≡ true → 0 < uses before.0 → before.0.page ≡ Some before.0.stored)
     × (0 < before.0.writes → before.0.reads ≡ 0) × (before.0.writes < 2)
 
--- a queue with one thread more
-abbrev pub queued : View → View → View
-queued v w = queue (v.waits + 1) v.reads w.page
+-- the queue with one thread that came in
+abbrev pub entered : View → View → View
+entered v w = queue v.waits v.wants v.reads 1 0 w.page
 
 -- a thread's seat with its pin
 abbrev pub with_pin : View → View → View
 with_pin v w = guest 0 0 0 1 0 0 1 w.page
 
--- if the word was as expected, the thread waits; else nothing changed
-abbrev pub Waits : Step ℕ → Me ℕ View → ℕ → Me ℕ View → Type 0
-Waits step before found after =
-    (found ≡ step.first → after ≡ (queue 1 0 before.0.page, before.1))
+-- if the word was as expected, the thread that came in waits, to read or to write; else nothing changed
+abbrev pub Waits : ℕ → ℕ → Step ℕ → Me ℕ View → ℕ → Me ℕ View → Type 0
+Waits r w step before found after =
+    (found ≡ step.first
+    → after ≡ (queue (before.0.waits + r) (before.0.wants + w) before.0.reads 0 0 before.0.page, before.1))
     × (found ≢ step.first → after ≡ before)
 
 -- all that wait fit beside the readers that are there
@@ -206,8 +224,21 @@ abbrev pub FindsRoom : Step ℕ → Me ℕ View → ℕ → Me ℕ View → Type
 FindsRoom step before found after =
     (after ≡ before) × ((fields found).readers + before.0.waits < 1048576) × ((fields found).stays ≤ (fields found).out)
 
--- if the word was as expected, all that waited read; else nothing changed
+-- if the word was as expected, all that waited to read do so; else nothing changed
 abbrev pub LetsIn : Step ℕ → Me ℕ View → ℕ → Me ℕ View → Type 0
 LetsIn step before found after =
-    (found ≡ step.first → after ≡ (queue 0 (before.0.waits + before.0.reads) before.0.page, before.1))
+    (found ≡ step.first
+    → after ≡ (queue 0 before.0.wants (before.0.waits + before.0.reads) 0 0 before.0.page, before.1))
     × (found ≢ step.first → after ≡ before)
+
+-- if the word was as expected, one that waited to write does so; else nothing changed
+abbrev pub LetsWriterIn : Step ℕ → Me ℕ View → ℕ → Me ℕ View → Type 0
+LetsWriterIn step before found after =
+    (found ≡ step.first
+    → after ≡ (queue before.0.waits (before.0.wants - 1) before.0.reads 1 1 before.0.page, before.1))
+    × (found ≢ step.first → after ≡ before)
+
+-- what is found says whether threads wait
+abbrev pub Tells : Step ℕ → Me ℕ View → ℕ → Me ℕ View → Type 0
+Tells step before found after =
+    (after ≡ before) × (before.0.queues ≡ 1 → (fields found).queued ≡ some_of (waiting before.0))

@@ -1,10 +1,11 @@
 //! `Frame`, the words that threads share, `Keeper`, which gives the frame to pages, and `Visitor`, a thread that comes.
 ghost use Rattle.std.specs.Prelude.{◌≡◌, ◌≢◌, Some, None, IsTrue, IsSome, IsNone, IfOk, IfErr, IfSome};
 
+use crate::queues::Queue;
 use crate::shares::{Pin, Reader, Writer};
 use crate::views::{
     Admit, Begin, ComeAlone, ComeToPin, ComeToRead, End, Find, FindHome, Flag, GiveOut, Leave,
-    LookPage, Part, Store, ToPin, Token, Words,
+    LookPage, MakeQueue, Part, Store, ToPin, Token, Words,
 };
 use crate::word::{JOIN, PIN, READER, WRITER, Word};
 use atomic_table::Table;
@@ -69,17 +70,27 @@ impl Model for Visitor {
 }
 
 impl Frame {
-    /// Makes a frame that is given to no page, with its keeper. No other call takes memory.
-    pub fn new(alloc: Global) -> Result<(Frame, Keeper), AllocError>
-        ensures { IfOk result (λ made. made.1 ≡ record { frame = made.0; page = None }) }
+    /// Makes a frame that is given to no page, with its keeper, and its queue, in which nobody waits. No other call
+    /// takes memory.
+    pub fn new(alloc: Global) -> Result<(Frame, Keeper, Queue), AllocError>
+        ensures keeper { IfOk result (λ made. made.1 ≡ record { frame = made.0; page = None }) }
+        ensures queue { IfOk result (λ made.
+            made.2 ≡ record { frame = made.0; waiting = 0; writers = 0; granted = 0 }) }
     {
-        let (table, seat) = Table::of_words(alloc, &[0, 0], &())?;
+        let (table, mut seat) = Table::of_words(alloc, &[0, 0], &())?;
+        let queue = Queue {
+            seat: table.shared.split_seat::<MakeQueue>(&mut seat),
+            waiting: 0,
+            writers: 0,
+            granted: 0,
+        };
         Ok((
             Frame { table },
             Keeper {
                 seat,
                 spare: 262143,
             },
+            queue,
         ))
     }
 }
@@ -170,19 +181,6 @@ impl Visitor {
         }
         let seat = shared.split_seat::<Part>(&mut self.seat);
         Some(Writer { seat })
-    }
-
-    /// Notes that a thread waits for a latch that is not free.
-    pub fn try_queue(&mut self, frame: &Frame, latch: u64) -> bool
-        requires { self.old.frame ≡ frame.now }
-        ensures { self.new ≡ self.old }
-    {
-        let shared = &frame.table.shared;
-        let seen = shared.load::<Find>(&mut self.seat, 0);
-        match Word(seen).with_queue(latch) {
-            Some(next) => shared.compare_exchange::<Flag>(&mut self.seat, 0, seen, next) == seen,
-            None => false,
-        }
     }
 
     /// Lets whoever comes take the latch.

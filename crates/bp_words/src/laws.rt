@@ -1,9 +1,11 @@
 //! What the shares in a frame show of each other, and of the keeper.
-ghost use Rattle.std.specs.Prelude.{◌≡◌, Some};
+ghost use Rattle.std.specs.Prelude.{◌≡◌, ◌+◌, Some};
+ghost use Rattle.bp_words.specs.Fields.{fields, some_of};
 
 use crate::frames::{Frame, Keeper};
+use crate::queues::Queue;
 use crate::shares::{Pin, Reader, Writer};
-use crate::views::{Compare, GiveOut, TakeIn};
+use crate::views::{Compare, GiveOut, TakeIn, Tell};
 
 impl Frame {
     /// The page that somebody pins is the one to which the keeper gave the frame. Nothing changes.
@@ -52,6 +54,15 @@ impl Frame {
         let _ = shared.load::<Compare>(&mut keeper.seat, 0);
         let seat = shared.split_seat::<GiveOut>(&mut keeper.seat);
         Writer { seat }
+    }
+
+    /// The word that is returned says that threads wait exactly if some do. Nothing changes.
+    pub fn word_tells(&self, queue: &mut Queue) -> u64
+        requires { queue.old.frame ≡ self.now }
+        ensures told { (fields result).queued ≡ some_of (queue.old.waiting + queue.old.writers) }
+        ensures queue { queue.new ≡ queue.old }
+    {
+        self.table.shared.load::<Tell>(&mut queue.seat, 0)
     }
 
     /// Nobody reads a page that somebody writes.

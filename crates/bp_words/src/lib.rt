@@ -7,8 +7,8 @@
 //! waits, and what a blind share is it finds by the word that was there before. A share can be neither copied nor
 //! dropped: only its `leave` takes it.
 //!
-//! One [`Keeper`] gives the frame to a page and takes it back, which it can do only while there is no share. A
-//! [`Queue`] has those that wait for a shared latch, and lets them in together.
+//! One [`Keeper`] gives the frame to a page and takes it back, which it can do only while there is no share. One
+//! [`Queue`] has those that wait for a latch, and lets them in. The word says whether there are any.
 //!
 //! `check/one_text` makes the pager's `word.rs` of `word.rt`, by cutting off its clauses.
 #![tactic(auto)]
@@ -23,5 +23,5 @@ mod views;
 mod word;
 
 pub use frames::{Frame, Keeper, Visitor};
-pub use queues::{Queue, Waiter};
+pub use queues::Queue;
 pub use shares::{Pin, Reader, Writer};

@@ -2,7 +2,7 @@
 ghost use Rattle.std.specs.Prelude.{◌≡◌, IfSome, IfOk, IfErr};
 
 use crate::frames::Frame;
-use crate::views::{AddRead, AddWrite, Beside, Find, Flag, Leave, ToRead, ToWrite, Token};
+use crate::views::{AddRead, AddWrite, Beside, Find, Leave, ToRead, ToWrite, Token};
 use crate::word::{PIN, READER, WRITER, Word};
 use std::marker::Model;
 
@@ -160,30 +160,6 @@ impl Pin {
         let shared = &frame.table.shared;
         let seen = shared.load::<Find>(&mut self.seat, 0);
         let next = Word(seen).with_latch(WRITER, 0)?;
-        let taken = shared.compare_exchange::<AddWrite>(&mut self.seat, 0, seen, next);
-        if taken != seen {
-            return None;
-        }
-        let seat = shared.split_seat::<Beside>(&mut self.seat);
-        Some(Writer { seat })
-    }
-}
-
-impl Pin {
-    /// Hands the exclusive latch to the writer that is next, beside its pin, if nobody has a latch. Else it notes that
-    /// threads wait.
-    pub fn try_let_writer_in(&mut self, frame: &Frame, is_queue_empty: bool) -> Option<Writer>
-        requires { self.old.frame ≡ frame.now }
-        ensures pin { self.new ≡ self.old }
-        ensures had { IfSome result (λ share. share ≡ self.old) }
-    {
-        let shared = &frame.table.shared;
-        let seen = shared.load::<Find>(&mut self.seat, 0);
-        let next = Word(seen).with_writer(is_queue_empty);
-        if Word(seen).is_latched() {
-            shared.compare_exchange::<Flag>(&mut self.seat, 0, seen, next);
-            return None;
-        }
         let taken = shared.compare_exchange::<AddWrite>(&mut self.seat, 0, seen, next);
         if taken != seen {
             return None;

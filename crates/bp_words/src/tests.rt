@@ -1,7 +1,7 @@
-ghost use Rattle.std.specs.Prelude.{◌≡◌};
+ghost use Rattle.std.specs.Prelude.{◌≡◌, ◌+◌, ◌<◌};
 
 use crate::word::{JOIN, PIN, READER, WRITER, Word};
-use crate::{Frame, Keeper, Pin, Visitor};
+use crate::{Frame, Keeper, Pin, Queue, Visitor};
 use std::sync::atomic::AtomicU64;
 use std::sync::atomic::Ordering::SeqCst;
 use std::test::Fail;
@@ -57,7 +57,7 @@ fn a_word_tells_its_parts(rt: HostRuntime) -> Result<(), Fail> {
 
 #[test]
 fn a_frame_serves_one_page_at_a_time(rt: HostRuntime) -> Result<(), Fail> {
-    let (frame, mut keeper) = Frame::new(rt.alloc())?;
+    let (frame, mut keeper, _queue) = Frame::new(rt.alloc())?;
     let mut visitor = keeper.admit(&frame).ok_or("too many")?;
     assert_eq!(rt; free(&frame, &mut visitor, 0), (false, false, false));
     let pin = keeper.try_begin(&frame, 7, true).ok_or("changed")?;
@@ -109,7 +109,7 @@ fn beside(
 
 #[test]
 fn latches_keep_apart(rt: HostRuntime) -> Result<(), Fail> {
-    let (frame, mut keeper) = Frame::new(rt.alloc())?;
+    let (frame, mut keeper, _queue) = Frame::new(rt.alloc())?;
     let mut visitor = keeper.admit(&frame).ok_or("too many")?;
     let pin = keeper.try_begin(&frame, 7, false).ok_or("changed")?;
     assert_eq!(rt;
@@ -125,29 +125,37 @@ fn latches_keep_apart(rt: HostRuntime) -> Result<(), Fail> {
     Ok(())
 }
 
-/// Waits behind a writer, which leaves then, and says how often the thread was let in.
+/// Whether the word says that threads wait.
+fn says_so(frame: &Frame, queue: &mut Queue) -> bool
+    requires { queue.old.frame ≡ frame.now }
+    ensures { queue.new ≡ queue.old }
+{
+    frame.word_tells(queue) / (2 * WRITER) % 2 == 1
+}
+
+/// A thread waits to read behind a writer, which leaves then. Says whether the word told of it, whether the thread was
+/// let in too early, and whether it was let in.
 fn waits(
     frame: &Frame,
-    keeper: &mut Keeper,
+    queue: &mut Queue,
     writer: Pin,
     visitor: Visitor,
     pin: Pin,
-) -> (bool, bool)
-    requires keeper { keeper.old.frame ≡ frame.now }
+) -> (bool, bool, bool)
+    requires queue { queue.old ≡ record { frame = frame.now; waiting = 0; writers = 0; granted = 0 } }
     requires writer { writer.frame ≡ frame.now }
     requires visitor { visitor.frame ≡ frame.now }
     requires pin { pin.frame ≡ frame.now }
-    ensures { keeper.new ≡ keeper.old }
+    ensures { queue.new.frame ≡ queue.old.frame }
 {
-    let mut queue = keeper.make_queue(frame);
-    let mut let_in = false;
+    let mut told = false;
     let mut early = false;
     match writer.try_write(frame) {
         Ok(writer) => {
-            match visitor.try_wait(frame, pin) {
-                Ok(waiter) => {
-                    queue.add(frame, waiter);
-                    early = queue.try_let_readers_in(frame, true);
+            match queue.try_wait_to_read(frame, visitor, pin) {
+                Ok(()) => {
+                    told = says_so(frame, queue);
+                    early = queue.try_let_readers_in(frame);
                 }
                 Err((_visitor, pin)) => pin.leave(frame),
             }
@@ -158,29 +166,108 @@ fn waits(
             pin.leave(frame);
         }
     }
-    if !early && queue.try_let_readers_in(frame, true) {
+    let let_in = !early && goes_on(frame, queue);
+    (told, early, let_in)
+}
+
+/// Lets the readers in that wait, and one of them go on.
+fn goes_on(frame: &Frame, queue: &mut Queue) -> bool
+    requires frame { queue.old.frame ≡ frame.now }
+    requires fits { queue.old.waiting + queue.old.granted < 18446744073709551616 }
+    ensures { queue.new.frame ≡ queue.old.frame }
+{
+    if queue.try_let_readers_in(frame) {
         if let Some((reader, pin, _visitor)) = queue.hand(frame) {
             reader.leave(frame);
             pin.leave(frame);
-            let_in = true;
+            return !says_so(frame, queue);
         }
     }
-    (early, let_in)
+    false
 }
 
 #[test]
 fn who_waits_is_let_in(rt: HostRuntime) -> Result<(), Fail> {
-    let (frame, mut keeper) = Frame::new(rt.alloc())?;
+    let (frame, mut keeper, mut queue) = Frame::new(rt.alloc())?;
     let mut visitor = keeper.admit(&frame).ok_or("too many")?;
     let writer = keeper.try_begin(&frame, 7, false).ok_or("changed")?;
     match visitor.join_pin(&frame, 7) {
         Some(pin) => {
             assert_eq!(rt;
-                waits(&frame, &mut keeper, writer, visitor, pin),
-                (false, true)
+                waits(&frame, &mut queue, writer, visitor, pin),
+                (true, false, true)
             );
         }
         None => writer.leave(&frame),
+    }
+    assert!(rt; keeper.try_end(&frame));
+    Ok(())
+}
+
+/// A thread waits to write beside a reader, which leaves then. Says the same of it.
+fn waits_to_write(
+    frame: &Frame,
+    queue: &mut Queue,
+    reader: Pin,
+    visitor: Visitor,
+    pin: Pin,
+) -> (bool, bool, bool)
+    requires queue { queue.old ≡ record { frame = frame.now; waiting = 0; writers = 0; granted = 0 } }
+    requires reader { reader.frame ≡ frame.now }
+    requires visitor { visitor.frame ≡ frame.now }
+    requires pin { pin.frame ≡ frame.now }
+    ensures { queue.new.frame ≡ queue.old.frame }
+{
+    let mut told = false;
+    let mut early = false;
+    match reader.try_read(frame) {
+        Ok(reader) => {
+            match queue.try_wait_to_write(frame, visitor, pin) {
+                Ok(()) => {
+                    told = says_so(frame, queue);
+                    early = writes(frame, queue);
+                }
+                Err((_visitor, pin)) => pin.leave(frame),
+            }
+            reader.leave(frame);
+        }
+        Err(reader) => {
+            reader.leave(frame);
+            pin.leave(frame);
+        }
+    }
+    let let_in = !early && writes(frame, queue);
+    (told, early, let_in)
+}
+
+/// Lets a writer in that waits, and go on.
+fn writes(frame: &Frame, queue: &mut Queue) -> bool
+    requires frame { queue.old.frame ≡ frame.now }
+    requires fits { queue.old.waiting + queue.old.writers < 2 }
+    ensures frame { queue.new.frame ≡ queue.old.frame }
+    ensures fits { queue.new.waiting + queue.new.writers < 2 }
+{
+    if let Some((writer, pin, _visitor)) = queue.try_let_writer_in(frame) {
+        writer.leave(frame);
+        pin.leave(frame);
+        return !says_so(frame, queue);
+    }
+    false
+}
+
+#[test]
+fn who_waits_to_write_is_let_in(rt: HostRuntime) -> Result<(), Fail> {
+    let (frame, mut keeper, mut queue) = Frame::new(rt.alloc())?;
+    let mut visitor = keeper.admit(&frame).ok_or("too many")?;
+    let reader = keeper.try_begin(&frame, 7, false).ok_or("changed")?;
+    match visitor.join_pin(&frame, 7) {
+        Some(pin) => {
+            assert_eq!(rt;
+                waits_to_write(&frame, &mut queue, reader, visitor, pin),
+                (true, false, true)
+            );
+        }
+        None => reader.leave(&frame),
     }
     assert!(rt; keeper.try_end(&frame));
     Ok(())
@@ -239,7 +326,7 @@ fn turn(frame: &Frame, keeper: &mut Keeper, ended: &mut u64)
 
 #[test]
 fn threads_keep_apart(rt: HostRuntime) -> Result<(), Fail> {
-    let (frame, mut keeper) = Frame::new(rt.alloc())?;
+    let (frame, mut keeper, _queue) = Frame::new(rt.alloc())?;
     let first = keeper.admit(&frame).ok_or("too many")?;
     let second = keeper.admit(&frame).ok_or("too many")?;
     let (writers, beside) = (AtomicU64::new(0), AtomicU64::new(0));

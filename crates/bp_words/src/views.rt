@@ -20,9 +20,12 @@ pub(crate) struct View {
     pub loose: u64,
     /// Whether it has the share that writes.
     pub writes: u64,
-    /// The threads for which it may add a share before it has looked, and how many of these wait.
+    /// The threads for which it may add a share before it has looked, and how many of these wait for a shared latch.
     pub tickets: u64,
     pub waits: u64,
+    /// How many wait for the exclusive latch, and 1 if it is the queue's.
+    pub wants: u64,
+    pub queues: u64,
     /// It is the keeper's.
     pub tends: bool,
     /// The page of its shares; of the keeper, the page to which the frame is given.
@@ -35,13 +38,12 @@ pub(crate) struct View {
 pub(crate) struct Law;
 
 impl TableRule<u8, View, ()> for Law {
-    ghost use Rattle.std.specs.Prelude.{None};
     ghost use Rattle.bp_words.specs.Rule.{FrameRule};
-    ghost use Rattle.bp_words.specs.Views.{keeper};
+    ghost use Rattle.bp_words.specs.Views.{founder};
 
     ghost holds = { λ _ state. FrameRule state };
 
-    ghost first = { λ _. keeper 0 262143 None 0 };
+    ghost first = { λ _. founder 262143 };
 }
 
 /// A thread adds a share to the readers, and finds then what it is.
@@ -255,13 +257,22 @@ impl Split<View> for Admit {
     ghost right = { λ _. idle };
 }
 
-/// A thread with its pin waits.
-pub(crate) struct Wait;
+/// A thread that came into the queue waits for a shared latch.
+pub(crate) struct WaitToRead;
 
-impl Play<u8, View> for Wait {
+impl Play<u8, View> for WaitToRead {
     ghost use Rattle.bp_words.specs.Views.{Waits};
 
-    ghost then = { Waits };
+    ghost then = { Waits 1 0 };
+}
+
+/// A thread that came into the queue waits for the exclusive latch.
+pub(crate) struct WaitToWrite;
+
+impl Play<u8, View> for WaitToWrite {
+    ghost use Rattle.bp_words.specs.Views.{Waits};
+
+    ghost then = { Waits 0 1 };
 }
 
 /// A queue finds that all of it fit.
@@ -273,13 +284,31 @@ impl Play<u8, View> for FindRoom {
     ghost then = { FindsRoom };
 }
 
-/// All of a queue are let in.
+/// All that wait for a shared latch are let in.
 pub(crate) struct LetIn;
 
 impl Play<u8, View> for LetIn {
     ghost use Rattle.bp_words.specs.Views.{LetsIn};
 
     ghost then = { LetsIn };
+}
+
+/// One that waits for the exclusive latch is let in.
+pub(crate) struct LetWriterIn;
+
+impl Play<u8, View> for LetWriterIn {
+    ghost use Rattle.bp_words.specs.Views.{LetsWriterIn};
+
+    ghost then = { LetsWriterIn };
+}
+
+/// What the word says of who waits.
+pub(crate) struct Tell;
+
+impl Play<u8, View> for Tell {
+    ghost use Rattle.bp_words.specs.Views.{Tells};
+
+    ghost then = { Tells };
 }
 
 /// A thread's seat takes its pin in.
@@ -293,42 +322,53 @@ impl Join<View> for TakePin {
     ghost spent = { spent };
 }
 
-/// A queue takes a thread in.
+/// The queue takes a thread in, with its pin.
 pub(crate) struct TakeWaiter;
 
 impl Join<View> for TakeWaiter {
-    ghost use Rattle.bp_words.specs.Views.{queued, spent};
+    ghost use Rattle.bp_words.specs.Views.{entered, spent};
 
-    ghost both = { queued };
+    ghost both = { entered };
 
     ghost spent = { spent };
 }
 
-/// A queue gives out a thread that was let in.
+/// The queue gives out a reader that was let in.
 pub(crate) struct Hand;
 
 impl Split<View> for Hand {
     ghost use Rattle.std.specs.Prelude.{◌-◌};
     ghost use Rattle.bp_words.specs.Views.{guest, queue};
 
-    ghost left = { λ v. queue v.waits (v.reads - 1) v.page };
+    ghost left = { λ v. queue v.waits v.wants (v.reads - 1) 0 0 v.page };
 
     ghost right = { λ v. guest 1 0 0 1 0 0 1 v.page };
 }
 
-/// Such a thread's seat gives out the share that reads.
-pub(crate) struct PartReader;
+/// The queue gives out the thread that came in and does not wait, or the writer that was let in.
+pub(crate) struct HandOne;
 
-impl Split<View> for PartReader {
+impl Split<View> for HandOne {
+    ghost use Rattle.bp_words.specs.Views.{guest, queue};
+
+    ghost left = { λ v. queue v.waits v.wants v.reads 0 0 v.page };
+
+    ghost right = { λ v. guest 0 0 0 1 0 v.writes 1 v.page };
+}
+
+/// The seat of a thread that was let in gives out its latch.
+pub(crate) struct PartLatch;
+
+impl Split<View> for PartLatch {
     ghost use Rattle.bp_words.specs.Shares.{given};
     ghost use Rattle.bp_words.specs.Views.{guest, held};
 
     ghost left = { λ v. guest 0 0 0 1 0 0 1 v.page };
 
-    ghost right = { λ v. held 1 0 0 (given v.page) };
+    ghost right = { λ v. held v.reads 0 v.writes (given v.page) };
 }
 
-/// The keeper makes a queue.
+/// The first seat gives out the queue.
 pub(crate) struct MakeQueue;
 
 impl Split<View> for MakeQueue {
@@ -337,5 +377,5 @@ impl Split<View> for MakeQueue {
 
     ghost left = { λ v. keeper 0 v.tickets v.page v.stored };
 
-    ghost right = { λ _. queue 0 0 None };
+    ghost right = { λ _. queue 0 0 0 0 0 None };
 }

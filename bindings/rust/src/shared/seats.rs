@@ -160,7 +160,7 @@ impl Seat {
             }
             // Only where the latch is not free now: so who lets it go finds this.
             // Acquire: what it tells, the queues' mutex tells too.
-            // step: Visitor::try_queue, Visitor::try_wait
+            // step: Queue::try_wait_to_read, Queue::try_wait_to_write
             match self.change(Ordering::Acquire, |word| Word(word).with_queue(latch)) {
                 Ok(before) => return Ok(Some(before)),
                 Err(word) if !word.has_room() => return Err(Error::TooManyGuards),
@@ -181,7 +181,7 @@ impl Seat {
     /// queues are locked.
     pub(super) fn let_writer_in(&self, is_queue_empty: bool) -> bool {
         // AcqRel: as for readers.
-        // step: Pin::try_let_writer_in
+        // step: Queue::try_let_writer_in
         let let_in = |word| Some(Word(word).with_writer(is_queue_empty));
         let before = self.change(Ordering::AcqRel, let_in);
         before.is_ok_and(|it| !it.is_latched())

@@ -1,4 +1,4 @@
-use Rattle.std.proofs.Common.{rules, ap, ◌∙◌, arith}
+use Rattle.std.proofs.Common.{rules, ap, ◌+◌, ◌∙◌, arith}
 use Rattle.bp_words.specs.Views.{joined}
 use Rattle.bp_words.proofs.Parts.{join_keeper, compare_kept}
 use Rattle.bp_words.proofs.Keeping.{give_split}
@@ -13,4 +13,4 @@ load-requires c = (search rules, search rules, compare_kept _ _ _)
 pub split_seat-seat-requires : goal.split_seat-seat-requires
 split_seat-seat-requires c =
     let is = c.load.ensures.2.0 ∙ (c.join_seat.ensures.2 ∙ (λ i. (joined (c.keeper.invariant i).0 (c.share.invariant i).0, c.keeper.inside.seat.me.1))) in
-    (search rules, search rules, give_split _ 0 0 1 0 0 _ (ap (λ me. me.0.reads) is) (ap (λ me. me.0.pins) is) (ap (λ me. me.0.writes) is) (ap (λ me. me.0.halves) is) (ap (λ me. me.0.strays) is) (ap (λ me. me.0.loose) is) (ap (λ me. me.0.waits) is) (ap (λ me. me.0.tends) is) (omega arith))
+    (search rules, search rules, give_split _ 0 0 1 0 0 _ (ap (λ me. me.0.reads) is) (ap (λ me. me.0.pins) is) (ap (λ me. me.0.writes) is) (ap (λ me. me.0.halves) is) (ap (λ me. me.0.strays) is) (ap (λ me. me.0.loose) is) (ap (λ me. me.0.waits + (me.0.wants + me.0.queues)) is) (ap (λ me. me.0.tends) is) (omega arith))

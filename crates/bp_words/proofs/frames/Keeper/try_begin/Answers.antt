@@ -1,4 +1,4 @@
-use Rattle.std.proofs.Common.{rules, ap, ◌∙◌, ◌≡◌, arith}
+use Rattle.std.proofs.Common.{rules, ap, ◌+◌, ◌∙◌, ◌≡◌, arith}
 use Rattle.bp_words.specs.Fields.{one_if}
 use Rattle.bp_words.specs.Views.{keeper}
 use Rattle.bp_words.proofs.Keeping.{store_kept, find_home_kept, begin_kept, give_split, one_if_small}
@@ -17,4 +17,4 @@ pub split_seat-seat-requires : goal.split_seat-seat-requires
 split_seat-seat-requires c =
     let hit : c.compare_exchange-found.result ≡ c.load-seen.result = search rules in
     let is = c.compare_exchange-found.ensures.2.0 hit in
-    (search rules, search rules, give_split _ 0 1 0 0 0 _ (ap (λ me. me.0.reads) is) (ap (λ me. me.0.pins) is) (ap (λ me. me.0.writes) is) (ap (λ me. me.0.halves) is) (ap (λ me. me.0.strays) is) (ap (λ me. me.0.loose) is) (ap (λ me. me.0.waits) is) (ap (λ me. me.0.tends) is) (omega arith))
+    (search rules, search rules, give_split _ 0 1 0 0 0 _ (ap (λ me. me.0.reads) is) (ap (λ me. me.0.pins) is) (ap (λ me. me.0.writes) is) (ap (λ me. me.0.halves) is) (ap (λ me. me.0.strays) is) (ap (λ me. me.0.loose) is) (ap (λ me. me.0.waits + (me.0.wants + me.0.queues)) is) (ap (λ me. me.0.tends) is) (omega arith))

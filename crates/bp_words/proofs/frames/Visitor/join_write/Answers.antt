@@ -20,7 +20,7 @@ fetch_sub-requires c =
     let hit : c.compare_exchange-taken.result ≡ c.load-seen.result = search rules in
     let got = c.compare_exchange-taken.ensures.2.0 hit in
     let is = c.load-found.ensures.2.0 ∙ got.1 in
-    (search rules, search rules, leave_kept _ _ 0 0 1 _ (ap (λ me. me.0.reads + (me.0.halves + me.0.strays)) is) (ap (λ me. me.0.pins + me.0.loose) is) (ap (λ me. me.0.writes) is) (ap (λ me. me.0.waits) is) (omega arith) (omega arith) (omega arith))
+    (search rules, search rules, leave_kept _ _ 0 0 1 _ (ap (λ me. me.0.reads + (me.0.halves + me.0.strays)) is) (ap (λ me. me.0.pins + me.0.loose) is) (ap (λ me. me.0.writes) is) (ap (λ me. me.0.waits + (me.0.wants + me.0.queues)) is) (omega arith) (omega arith) (omega arith))
 
 pub split_seat-seat-requires : goal.split_seat-seat-requires
 split_seat-seat-requires c =

@@ -7,4 +7,4 @@ pub load-seen-requires : goal.load-seen-requires
 load-seen-requires c = (search rules, search rules, find_kept _ _ _)
 
 pub compare_exchange-requires : goal.compare_exchange-requires
-compare_exchange-requires c = (search rules, search rules, flag_word _ _ c.load-seen.result _ (fields c.load-seen.result).queued (fields c.load-seen.result).stays 0 (fields c.load-seen.result).joins _ (omega arith) c.load-seen.ensures.2.4 (omega arith) c.opened-next.ensures)
+compare_exchange-requires c = (search rules, search rules, flag_word _ _ c.load-seen.result _ (fields c.load-seen.result).stays 0 (fields c.load-seen.result).joins _ c.load-seen.ensures.2.4 (omega arith) c.opened-next.ensures)
