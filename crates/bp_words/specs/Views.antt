@@ -60,8 +60,8 @@ keeper p t page stored =
 abbrev pub founder : ℕ → View
 founder t = record (keeper 0 t None 0) { queues = 1 }
 
--- the queue: so many threads wait for a shared latch and for the exclusive one, and so many readers were let in; so many
--- came in beside these, and such a share that writes is there; each of these threads has its pin and its ticket
+-- the queue: so many threads wait for a shared latch and for the exclusive one, and so many readers were let in; so
+-- many came in beside these, and such a share that writes is there; each of these threads has its pin and its ticket
 abbrev pub queue : ℕ → ℕ → ℕ → ℕ → ℕ → Option ℕ → View
 queue n m g e w page =
     record {

@@ -142,7 +142,8 @@ fn waits(
     visitor: Visitor,
     pin: Pin,
 ) -> (bool, bool, bool)
-    requires queue { queue.old ≡ record { frame = frame.now; waiting = 0; writers = 0; granted = 0 } }
+    requires queue { queue.old
+        ≡ record { frame = frame.now; waiting = 0; writers = 0; granted = 0 } }
     requires writer { writer.frame ≡ frame.now }
     requires visitor { visitor.frame ≡ frame.now }
     requires pin { pin.frame ≡ frame.now }
@@ -212,7 +213,8 @@ fn waits_to_write(
     visitor: Visitor,
     pin: Pin,
 ) -> (bool, bool, bool)
-    requires queue { queue.old ≡ record { frame = frame.now; waiting = 0; writers = 0; granted = 0 } }
+    requires queue { queue.old
+        ≡ record { frame = frame.now; waiting = 0; writers = 0; granted = 0 } }
     requires reader { reader.frame ≡ frame.now }
     requires visitor { visitor.frame ≡ frame.now }
     requires pin { pin.frame ≡ frame.now }
