@@ -79,23 +79,24 @@ impl Part {
     }
 
     /// Has a page leave its frame that was read ahead and that nobody has used, since it is made anew: what the
-    /// device has of it is of no use.
-    pub(super) fn drop_ahead(&self, state: &mut State, own: u64) {
+    /// device has of it is of no use. It returns true if it did, and a frame is free for the call.
+    pub(super) fn drop_ahead(&self, state: &mut State, own: u64) -> bool {
         let Some(number) = self.seats.of(own) else {
-            return;
+            return false;
         };
         let seat = self.seats.seat(number);
         if seat.word().is_out() {
             self.count_under(state, number);
         }
         // Once its pass is not out, each use of it is seen.
-        if state.kept.is_ahead(number)
+        let leaves = state.kept.is_ahead(number)
             && self.let_go(state, own)
             && !seat.is_touched()
-            && state.pool.discard(0, own).is_ok()
-        {
+            && state.pool.discard(0, own).is_ok();
+        if leaves {
             self.forget_under(state, own, number);
         }
+        leaves
     }
 
     /// Gives the pass of a page back if it is out and nobody uses the page. It returns true if it is
@@ -115,8 +116,7 @@ impl Part {
             return;
         };
         self.forget_under(&mut state, own, seat);
-        drop(state);
-        self.wake_for_frame();
+        self.wake_for_frame(state);
     }
 
     /// Takes the seat back of a page that was discarded.
