@@ -52,6 +52,10 @@ impl<F: PageIo> SharedPager<F> {
     }
 }
 
+/// So long flushes of a page stand back for a call that is to discard it, while another thread uses it. Not
+/// longer: a thread that has the page pinned may flush it.
+const SOON: Duration = Duration::from_millis(1);
+
 impl Part {
     fn discard(&self, own: u64, most: Duration) -> Result<bool> {
         let (mut began, waited) = (None, Waited::default());
@@ -59,7 +63,7 @@ impl Part {
         loop {
             if self.let_go(&mut state, own) {
                 match state.pool.discard(0, own) {
-                    Err(Error::Busy) => state = self.wait_for_work(state, own, &waited)?,
+                    Err(Error::Busy) => state = self.wait_to_discard(state, own, &waited)?,
                     Ok(was_resident) => {
                         self.forget(state, own);
                         return Ok(was_resident);
@@ -76,6 +80,30 @@ impl Part {
             let is_let_go = |state: &mut _| self.let_go(state, own);
             state = self.wait_for_page(state, left, is_let_go);
         }
+    }
+
+    /// Sleeps until the device work on a page has ended, and a moment more if the page is used then. Who
+    /// would write it out once more stands back until this call has had its turn.
+    fn wait_to_discard<'a>(
+        &'a self,
+        mut state: Locked<'a>,
+        own: u64,
+        waited: &Waited,
+    ) -> Result<Locked<'a>> {
+        let Some(seat) = self.seats.of(own) else {
+            return self.wait_for_work(state, own, waited);
+        };
+        state.firsts.begin_wait(seat, own);
+        let worked = self.wait_for_work(state, own, waited);
+        let worked =
+            worked.map(|state| self.wait_for_page(state, SOON, |state| self.let_go(state, own)));
+        let (mut state, error) = match worked {
+            Ok(state) => (state, None),
+            Err(error) => (self.lock(), Some(error)),
+        };
+        state.firsts.end_wait(seat, own);
+        self.wake_for_work(own, state.has_sleepers(own));
+        error.map_or(Ok(state), Err)
     }
 
     /// Has a page leave its frame that was read ahead and that nobody has used, since it is made anew: what the

@@ -18,6 +18,7 @@ mod part;
 mod pins;
 mod places;
 mod seats;
+mod syncs;
 mod upkeep;
 mod within;
 mod word;

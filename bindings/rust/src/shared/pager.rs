@@ -8,9 +8,9 @@ use super::log::Log;
 use super::part::{Fix, Locked, Part, turn_of, turn_of_power};
 use super::pins::{Came, Joined, Missed, MissedAlone, PASSES};
 use super::seats::list_of;
+use super::syncs::Syncs;
 use super::within::{self, Waited, Work};
 use super::work::{Reading, Writing};
-use super::write_outs::Syncs;
 use crate::{Error, PageIo, PagerError, ReadFault, Result};
 use std::fmt;
 use std::sync::atomic::{AtomicU64, AtomicUsize, Ordering};
@@ -76,7 +76,8 @@ use std::sync::atomic::{AtomicU64, AtomicUsize, Ordering};
 /// # What waits for what
 /// No lock is held while the device works: reads and write-outs of different pages overlap. A
 /// thread that wants a page that is being read sleeps until the read ends. Where a victim's log
-/// record is not durable, one thread makes the log durable for all.
+/// record is not durable, one thread makes the log durable for all. One sync of the device serves all
+/// threads that came before it began, and so does one write-out of a page those that flush it.
 ///
 /// Where all possible victims are pinned, a call waits for [`SharedConfig::pin_wait`]. Calls that wait get
 /// frames in the order in which they came. A call that comes later stands behind them, once the first of

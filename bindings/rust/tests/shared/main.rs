@@ -22,6 +22,7 @@ mod panics;
 mod refusals;
 mod remembered;
 mod rows;
+mod served;
 mod spread;
 mod stalls;
 mod stress;
