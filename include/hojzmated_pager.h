@@ -214,7 +214,8 @@ uint16_t hz_pager_free(hz_pager *pager);
  *     HZ_BUSY          with HZ_TRY, where the latch is not free
  *     HZ_NO_VICTIM     with HZ_TRY at once
  *     HZ_UNKNOWN_PASS  in a handler of atexit, and the like
- *     HZ_NEED_LOG, HZ_READ_FAILED, HZ_WRITE_FAILED, HZ_WRONG_PAGE, HZ_CLOCK_FULL, HZ_OUT_OF_MEMORY
+ *     HZ_NEED_LOG, HZ_WRITE_FAILED  no page could make way; the fault is that of the first one that was tried
+ *     HZ_READ_FAILED, HZ_WRONG_PAGE, HZ_CLOCK_FULL, HZ_OUT_OF_MEMORY
  */
 uint16_t hz_pager_fix(const hz_pager *pager, uint64_t page, uint32_t how, hz_ref *ref);
 
@@ -236,8 +237,9 @@ uint16_t hz_pager_unfix(const hz_ref *ref);
  * log records, from then on. */
 uint16_t hz_pager_mark(const hz_pager *pager, uint64_t lsn);
 
-/* Writes a page out, if it is unsaved. It waits for a thread that has its exclusive latch. Refused: HZ_OUT_OF_PAGE;
- * HZ_DEADLOCK; HZ_NEED_LOG, HZ_WRITE_FAILED, HZ_OUT_OF_MEMORY, after which it is unsaved. */
+/* Writes a page out, if it is unsaved. It waits for a thread that has its exclusive latch, and ends with a write-out
+ * that began after the call, its own or another thread's. Refused: HZ_OUT_OF_PAGE; HZ_DEADLOCK; HZ_NEED_LOG,
+ * HZ_WRITE_FAILED, HZ_OUT_OF_MEMORY, after which it is unsaved. */
 uint16_t hz_pager_flush(const hz_pager *pager, uint64_t page);
 
 /* Drops so many pages from the first one on: they leave their frames without being written out, and their references
@@ -254,7 +256,8 @@ uint16_t hz_pager_flush(const hz_pager *pager, uint64_t page);
  * them is still fixed, by this thread too: those before it are dropped. */
 uint16_t hz_pager_discard(const hz_pager *pager, uint64_t first, uint64_t count, uint64_t *resident);
 
-/* Writes out each page that was unsaved when the call began, in the order of the file, and then syncs the device.
+/* Writes out each page that was unsaved when the call began, in the order of the file, and then syncs the device. One
+ * sync serves all checkpoints that came to it before it began.
  *
  * It tells in *lsn from which LSN redo has to begin: the least of all puts that may not be on the device, where
  * *has_lsn is 1; there is none where it is 0, and *lsn too. The pager does not know a record that has no put yet. So

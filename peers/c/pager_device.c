@@ -85,6 +85,44 @@ static void errors(void)
     end(&pager);
 }
 
+/* A page that cannot go out, or whose log record cannot be made durable, has no other refused: others make way. */
+static void victims(void)
+{
+    hz_pager pager = start();
+    hz_pager_stats stats;
+    hz_ref ref;
+    uint64_t count;
+    for (int unlogged = 0; unlogged < 2; unlogged++) {
+        device.write_error = unlogged ? 0 : ENOSPC;
+        device.log_error = unlogged ? EIO : 0;
+        change(&pager, (uint64_t)unlogged, 77, unlogged ? 9 : 0);
+        for (int round = 0; round < 3; round++)
+            for (uint64_t page = 2; page < PAGES; page++) {
+                ref = fixed(&pager, page, round ? HZ_SHARED : HZ_EXCLUSIVE);
+                SAME(page, ref.bytes[0]);
+                SAME(HZ_DONE, hz_pager_unfix(&ref));
+            }
+        SAME(true, (unlogged ? device.logs : device.writes) > 0);
+        SAME(HZ_DONE, hz_pager_stats_of(&pager, &stats));
+        SAME(1, stats.unsaved);
+        SAME(0, stats.pinned);
+        device.write_error = device.log_error = 0;
+        SAME(HZ_DONE, hz_pager_flush(&pager, (uint64_t)unlogged));
+    }
+    /* None can make way: the first fault is told, and each page was tried once. */
+    SAME(HZ_DONE, hz_pager_discard(&pager, 0, PAGES, &count));
+    for (uint64_t page = 2; page < 2 + FRAMES; page++)
+        change(&pager, page, 77, 0);
+    device.write_error = ENOSPC;
+    device.writes = 0;
+    REFUSED(HZ_WRITE_FAILED, 1, 2, 0, ENOSPC, hz_pager_fix(&pager, 9, HZ_SHARED, &ref));
+    SAME(FRAMES, device.writes);
+    ref = fixed(&pager, 2, HZ_EXCLUSIVE);
+    SAME(77, ref.bytes[0]);
+    SAME(HZ_DONE, hz_pager_unfix(&ref));
+    end(&pager);
+}
+
 static void checkpoints(void)
 {
     hz_pager pager = start();
@@ -581,6 +619,7 @@ static void memory(void)
 int main(void)
 {
     errors();
+    victims();
     checkpoints();
     purges();
     periods();

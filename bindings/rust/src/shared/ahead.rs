@@ -268,7 +268,9 @@ impl Part {
     /// it. The caller has tickets or none.
     fn begin_ahead(&self, page: u64, noted: u32, has_tickets: bool) -> Result<Began<'_>> {
         let mut state = self.with_image(self.lock())?;
-        if self.seats.of(page).is_some() || self.seats.noted(page) != noted {
+        // Frames go to those first who wait for them.
+        let is_late = self.seats.of(page).is_some() || self.seats.noted(page) != noted;
+        if is_late || !state.line.is_empty() {
             return Ok(Began::Not);
         }
         self.make_way(&mut state, PASSES);

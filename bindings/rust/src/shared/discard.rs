@@ -52,6 +52,10 @@ impl<F: PageIo> SharedPager<F> {
     }
 }
 
+/// So long flushes of a page stand back for a call that is to discard it, while another thread uses it. Not
+/// longer: a thread that has the page pinned may flush it.
+const SOON: Duration = Duration::from_millis(1);
+
 impl Part {
     fn discard(&self, own: u64, most: Duration) -> Result<bool> {
         let (mut began, waited) = (None, Waited::default());
@@ -59,7 +63,7 @@ impl Part {
         loop {
             if self.let_go(&mut state, own) {
                 match state.pool.discard(0, own) {
-                    Err(Error::Busy) => state = self.wait_for_work(state, own, &waited)?,
+                    Err(Error::Busy) => state = self.wait_to_discard(state, own, &waited)?,
                     Ok(was_resident) => {
                         self.forget(state, own);
                         return Ok(was_resident);
@@ -78,24 +82,49 @@ impl Part {
         }
     }
 
+    /// Sleeps until the device work on a page has ended, and a moment more if the page is used then. Who
+    /// would write it out once more stands back until this call has had its turn.
+    fn wait_to_discard<'a>(
+        &'a self,
+        mut state: Locked<'a>,
+        own: u64,
+        waited: &Waited,
+    ) -> Result<Locked<'a>> {
+        let Some(seat) = self.seats.of(own) else {
+            return self.wait_for_work(state, own, waited);
+        };
+        state.firsts.begin_wait(seat, own);
+        let worked = self.wait_for_work(state, own, waited);
+        let worked =
+            worked.map(|state| self.wait_for_page(state, SOON, |state| self.let_go(state, own)));
+        let (mut state, error) = match worked {
+            Ok(state) => (state, None),
+            Err(error) => (self.lock(), Some(error)),
+        };
+        state.firsts.end_wait(seat, own);
+        self.wake_for_work(own, state.has_sleepers(own));
+        error.map_or(Ok(state), Err)
+    }
+
     /// Has a page leave its frame that was read ahead and that nobody has used, since it is made anew: what the
-    /// device has of it is of no use.
-    pub(super) fn drop_ahead(&self, state: &mut State, own: u64) {
+    /// device has of it is of no use. It returns true if it did, and a frame is free for the call.
+    pub(super) fn drop_ahead(&self, state: &mut State, own: u64) -> bool {
         let Some(number) = self.seats.of(own) else {
-            return;
+            return false;
         };
         let seat = self.seats.seat(number);
         if seat.word().is_out() {
             self.count_under(state, number);
         }
         // Once its pass is not out, each use of it is seen.
-        if state.kept.is_ahead(number)
+        let leaves = state.kept.is_ahead(number)
             && self.let_go(state, own)
             && !seat.is_touched()
-            && state.pool.discard(0, own).is_ok()
-        {
+            && state.pool.discard(0, own).is_ok();
+        if leaves {
             self.forget_under(state, own, number);
         }
+        leaves
     }
 
     /// Gives the pass of a page back if it is out and nobody uses the page. It returns true if it is
@@ -115,8 +144,7 @@ impl Part {
             return;
         };
         self.forget_under(&mut state, own, seat);
-        drop(state);
-        self.wake_for_frame();
+        self.wake_for_frame(state);
     }
 
     /// Takes the seat back of a page that was discarded.

@@ -8,6 +8,8 @@ use crate::Result;
 /// this is used only while there is such a write.
 pub(super) struct Firsts {
     of_seats: Vec<First>,
+    /// The number of write-outs that began so far, of all pages.
+    begun: u64,
     /// The seats whose pages have an unsaved write with an LSN and no record.
     unlogged: usize,
 }
@@ -24,6 +26,12 @@ pub(super) struct First {
     /// Whether a write that is in no image so far has an LSN and no record, and one in that image.
     is_unlogged: bool,
     sends_unlogged: bool,
+    /// The numbers of the newest write-out that began, and of the newest that went well, of this page or
+    /// of one that had the seat before.
+    began: u64,
+    arrived: u64,
+    /// The page that is to be discarded once its write-out has ended, and how many calls wait for that.
+    awaited: (u64, u32),
 }
 
 impl First {
@@ -46,6 +54,7 @@ impl Firsts {
     pub(super) fn new(seats: usize) -> Result<Firsts> {
         Ok(Firsts {
             of_seats: filled(seats)?,
+            begun: 0,
             unlogged: 0,
         })
     }
@@ -82,7 +91,10 @@ impl Firsts {
 
     /// Notes that an image of the page is being written out.
     pub(super) fn go_out(&mut self, seat: usize) {
+        self.begun += 1;
+        let number = self.begun;
         self.change(seat, |first| {
+            first.began = number;
             first.going_out = first.waiting;
             first.waiting = 0;
             first.is_going_out = true;
@@ -94,10 +106,43 @@ impl Firsts {
     /// Notes that the image is on the device.
     pub(super) fn arrive(&mut self, seat: usize) {
         self.change(seat, |first| {
+            first.arrived = first.began;
             first.going_out = 0;
             first.is_going_out = false;
             first.sends_unlogged = false;
         });
+    }
+
+    /// The number of write-outs that began so far.
+    pub(super) fn begun(&self) -> u64 {
+        self.begun
+    }
+
+    /// Whether a page was written out since so many write-outs had begun: one of it began later, and went
+    /// well; or it has left its frame since, and so was saved, or discarded. The page has this seat now.
+    pub(super) fn has_arrived(&self, seat: usize, begun: u64) -> bool {
+        self.of_seats[seat].arrived > begun
+    }
+
+    /// Notes that a call waits for the end of a write-out, to discard the page.
+    pub(super) fn begin_wait(&mut self, seat: usize, page: u64) {
+        let awaited = &mut self.of_seats[seat].awaited;
+        let others = if awaited.0 == page { awaited.1 } else { 0 };
+        *awaited = (page, others + 1);
+    }
+
+    /// Notes that it waits no longer. The seat may be another page's by now, for which others wait.
+    pub(super) fn end_wait(&mut self, seat: usize, page: u64) {
+        let awaited = &mut self.of_seats[seat].awaited;
+        if awaited.0 == page {
+            awaited.1 = awaited.1.saturating_sub(1);
+        }
+    }
+
+    /// Whether a page is to be discarded before it is written out once more.
+    pub(super) fn is_awaited(&self, seat: usize, page: u64) -> bool {
+        let (awaited, calls) = self.of_seats[seat].awaited;
+        calls > 0 && awaited == page
     }
 
     /// Notes that the image is not on the device.
@@ -113,7 +158,14 @@ impl Firsts {
 
     /// Notes that the page left its frame unwritten.
     pub(super) fn leave(&mut self, seat: usize) {
-        self.change(seat, |first| *first = First::default());
+        self.change(seat, |first| {
+            *first = First {
+                began: first.began,
+                arrived: first.arrived,
+                awaited: first.awaited,
+                ..First::default()
+            };
+        });
     }
 
     /// Iterates over the seats of pages that are being written out.
@@ -182,6 +234,44 @@ mod tests {
         firsts.go_out(0);
         firsts.arrive(0);
         assert!(!firsts.has_unlogged());
+        Ok(())
+    }
+
+    // A write-out serves those who came before it began, and only if it goes well.
+    #[test]
+    fn write_outs_by_number() -> Result<()> {
+        let mut firsts = Firsts::new(2)?;
+        firsts.go_out(0);
+        let came = firsts.begun();
+        firsts.arrive(0);
+        assert!(!firsts.has_arrived(0, came));
+        firsts.go_out(0);
+        firsts.come_back(0);
+        firsts.go_out(1);
+        firsts.arrive(1);
+        assert!(!firsts.has_arrived(0, came));
+        firsts.go_out(0);
+        firsts.arrive(0);
+        assert!(firsts.has_arrived(0, came) && !firsts.has_arrived(0, firsts.begun()));
+        // The page was discarded: what it had before is of no later call.
+        firsts.leave(0);
+        assert!(!firsts.has_arrived(0, firsts.begun()));
+        Ok(())
+    }
+
+    // Who waits to discard a page is no obstacle to another that gets its seat.
+    #[test]
+    fn waits_of_discards() -> Result<()> {
+        let mut firsts = Firsts::new(1)?;
+        firsts.begin_wait(0, 7);
+        firsts.begin_wait(0, 7);
+        assert!(firsts.is_awaited(0, 7) && !firsts.is_awaited(0, 8));
+        firsts.begin_wait(0, 8);
+        firsts.end_wait(0, 7);
+        assert!(firsts.is_awaited(0, 8));
+        firsts.end_wait(0, 8);
+        firsts.end_wait(0, 7);
+        assert!(!firsts.is_awaited(0, 7) && !firsts.is_awaited(0, 8));
         Ok(())
     }
 }

@@ -23,6 +23,29 @@ struct Turn {
     waits: u64,
 }
 
+/// What a call of the pager found that the log could not do: the least LSN up to which it could not be
+/// made durable.
+#[derive(Default)]
+pub(super) struct LostLog(Option<u64>);
+
+impl LostLog {
+    pub(super) fn note(&mut self, fault: &PagerError) {
+        if let PagerError::Log { lsn, .. } = fault {
+            self.0 = self.0.into_iter().chain([*lsn]).min();
+        }
+    }
+
+    /// # Errors
+    /// [`PagerError::Log`] where the log could not be made durable so far before, and is not by now.
+    pub(super) fn check(&self, log: &Log, lsn: u64) -> Result<(), PagerError> {
+        if self.0.is_none_or(|lost| lsn < lost) || log.durable() >= lsn {
+            return Ok(());
+        }
+        let source = io::Error::other("the log could not be made durable just before");
+        Err(PagerError::Log { lsn, source })
+    }
+}
+
 /// What a call is told that would wait for the function of the engine in which it is.
 const OWN_TURN: &str = "make_log_durable called the pager, which needs the log for that";
 

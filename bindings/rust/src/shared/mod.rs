@@ -1,5 +1,6 @@
 //! A pager that many threads use at once: several pools side by side, with latches on their pages.
 mod ahead;
+mod aside;
 mod away;
 mod config;
 mod discard;
@@ -8,6 +9,7 @@ mod firsts;
 mod guards;
 mod kept;
 mod latch;
+mod line;
 mod log;
 mod own;
 mod owned;
@@ -16,6 +18,7 @@ mod part;
 mod pins;
 mod places;
 mod seats;
+mod syncs;
 mod upkeep;
 mod within;
 mod word;

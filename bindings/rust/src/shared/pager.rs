@@ -1,18 +1,19 @@
 //! `SharedPager`: how it is made, and how it pins a page, or waits for one.
 use super::SharedConfig;
 use super::ahead::Ahead;
+use super::aside::{Failed, Unlogged};
 use super::guards::{PageMut, PagePin, PageRef};
+use super::line::Patience;
 use super::log::Log;
-use super::part::{Fix, Locked, Part, Unlogged, turn_of, turn_of_power};
+use super::part::{Fix, Locked, Part, turn_of, turn_of_power};
 use super::pins::{Came, Joined, Missed, MissedAlone, PASSES};
 use super::seats::list_of;
+use super::syncs::Syncs;
 use super::within::{self, Waited, Work};
 use super::work::{Reading, Writing};
-use super::write_outs::Syncs;
 use crate::{Error, PageIo, PagerError, ReadFault, Result};
 use std::fmt;
 use std::sync::atomic::{AtomicU64, AtomicUsize, Ordering};
-use std::time::{Duration, Instant};
 
 /// A pool for many threads, with its device and log. `docs/C.md` of the repository has an engine
 /// over it.
@@ -75,8 +76,13 @@ use std::time::{Duration, Instant};
 /// # What waits for what
 /// No lock is held while the device works: reads and write-outs of different pages overlap. A
 /// thread that wants a page that is being read sleeps until the read ends. Where a victim's log
-/// record is not durable, one thread makes the log durable for all. Where all possible victims are
-/// pinned, a call waits for [`SharedConfig::pin_wait`].
+/// record is not durable, one thread makes the log durable for all. One sync of the device serves all
+/// threads that came before it began, and so does one write-out of a page those that flush it.
+///
+/// Where all possible victims are pinned, a call waits for [`SharedConfig::pin_wait`]. Calls that wait get
+/// frames in the order in which they came. A call that comes later stands behind them, once the first of
+/// them has been the first for a tenth of a millisecond. Where 64 wait in a part, those that come then have
+/// the last place together. A call whose page comes into a frame meanwhile goes on at once.
 ///
 /// Latches are fair by phase. Who waits to read gets a page's latch after the writer that has it, or
 /// the one that is next, with all others that wait to read. [`flush`](SharedPager::flush) waits as one
@@ -102,8 +108,8 @@ use std::time::{Duration, Instant};
 ///
 /// These functions may call the pager, but what they wait for there may wait for them. So such a call
 /// is refused where it would wait for the function that it is in: with [`Error::Busy`] for a page that
-/// the function is to read or write out; with [`PagerError::Log`] in `make_log_durable`, where a page
-/// has to make way whose record is not durable; with [`PagerError::Sync`] in [`sync`](PageIo::sync).
+/// the function is to read or write out; with [`PagerError::Log`] in `make_log_durable`, where no page can
+/// make way but those whose records are not durable; with [`PagerError::Sync`] in [`sync`](PageIo::sync).
 /// And it waits for a page that another thread reads or writes out, and for its latch, no longer than
 /// [`SharedConfig::pin_wait`] in all, whatever others do meanwhile. After that it is refused with
 /// [`Error::Busy`]. A call for several pages has so long for each. Turns at the log and at
@@ -141,9 +147,16 @@ use std::time::{Duration, Instant};
 /// Nothing is lost where the device or the log fails or panics: the page that was to be read is in
 /// no frame, and the one that was to be written out is unsaved. Where a read fails, the threads that
 /// waited for the page as that read began have a fault of the same kind, text and number; who comes later has
-/// the page read anew. Other pages can be used: a victim
-/// that could not be written out counts as used just then, so a later call chooses another: the next
-/// one, or with a correlated period of 0 one after up to K such calls. Where the pager is dropped, pages that were not written out are lost.
+/// the page read anew.
+///
+/// Other pages can be used: where a victim could not be written out, or its log record not be made durable,
+/// the call goes on with the next one, and keeps the page in its frame meanwhile, without a latch. It counts
+/// as used just then. So a call is refused only where no page can make way, with the first fault. If other
+/// pages are pinned it waits for them before. It does not ask the log again for what that could not do.
+///
+/// Where the device or the log panics, so does the call. A later one chooses another victim: the next one,
+/// or with a correlated period of 0 one after up to K such calls. Where the pager is dropped, pages that
+/// were not written out are lost.
 pub struct SharedPager<F> {
     pub(super) parts: Box<[Part]>,
     /// If the number of parts is a power of two, its exponent.
@@ -265,8 +278,9 @@ impl<F: PageIo> SharedPager<F> {
     /// may be written out for that.
     ///
     /// # Errors
-    /// [`PagerError::Read`], [`PagerError::Write`] and [`PagerError::Log`] where the device or the
-    /// log failed. [`PagerError::Refused`] with [`OutOfPage`](Error::OutOfPage) where the file has
+    /// [`PagerError::Read`] where the device failed. [`PagerError::Write`] and [`PagerError::Log`] where no
+    /// page could make way, since the device or the log failed for one of them, which is told.
+    /// [`PagerError::Refused`] with [`OutOfPage`](Error::OutOfPage) where the file has
     /// no such page; [`NoVictim`](Error::NoVictim) where all possible victims were pinned for too
     /// long; [`PagerError::WrongPage`] where another page was found in the page's place;
     /// [`OutOfMemory`](Error::OutOfMemory); [`Busy`](Error::Busy) in a function of the engine;
@@ -461,55 +475,62 @@ impl<F: PageIo> SharedPager<F> {
         waited: &Waited,
     ) -> Result<PagePin<'a>, PagerError> {
         let mut state = part.with_image(part.lock())?;
-        if asked.is_new {
-            part.drop_ahead(&mut state, own);
-        }
+        let has_frame = asked.is_new && part.drop_ahead(&mut state, own);
         if let Some(seat) = part.out_under(own) {
             return Ok(part.join_under(state, seat)?);
         }
-        if part.seats.of(own).is_none() {
+        let is_away = part.seats.of(own).is_none();
+        if is_away {
             part.make_way(&mut state, PASSES);
         }
         part.tick_for_call(&mut state)?;
-        match part.ask(&mut state, own) {
+        let fixed = match is_away {
+            true => part.ask_in_turn(&mut state, own, has_frame),
+            false => part.ask(&mut state, own),
+        };
+        match fixed {
             Ok(Fix::Here(pass)) => Ok(part.pinned(state, pass, Came::Here)?),
+            Ok(Fix::Read(ticket)) => self.load(part, own, asked, Reading::new(part, state, ticket)),
             fixed => self.go_on(part, own, state, asked, fixed, waited),
         }
     }
 
-    /// Does the device work that a fix needs, and asks again, until the page is resident.
+    /// Does the device work that a fix needs, and asks again, until the page is resident. What cannot be
+    /// written out is set aside.
     #[inline(never)]
     fn go_on<'a>(
         &'a self,
         part: &'a Part,
         own: u64,
-        mut state: Locked<'a>,
+        state: Locked<'a>,
         asked: Asked,
         mut fixed: Result<Fix>,
         waited: &Waited,
     ) -> Result<PagePin<'a>, PagerError> {
-        let mut patience = Patience::new(part, asked.may_wait.then_some(self.config.pin_wait));
+        let most = asked.may_wait.then_some(self.config.pin_wait);
+        let mut patience = Patience::new(most, asked.is_new);
+        let mut failed = Failed::default();
+        // It is dropped first: what is set aside takes the lock as it goes.
+        let mut state = state;
         loop {
             state = match fixed {
                 Ok(Fix::Here(pass)) => return Ok(part.pinned(state, pass, Came::Here)?),
                 Ok(Fix::Read(ticket)) => {
-                    return self.load(part, own, asked, Reading::new(part, state, ticket));
+                    let reading = Reading::new(part, state, ticket);
+                    drop(failed);
+                    return self.load(part, own, asked, reading);
                 }
                 Ok(Fix::Write(ticket)) => {
-                    patience.has_aged = false;
-                    let (victim, lsn) = (part.in_file(ticket.page()), ticket.lsn());
-                    self.write_out(victim, lsn, Writing::new(part, state, ticket, true))?;
-                    part.lock()
+                    patience.had_turn = true;
+                    let lsn = ticket.lsn();
+                    let writing = Writing::new(part, state, ticket, true);
+                    self.write_victim(part, lsn, writing, &mut failed)?
                 }
                 Err(Error::NeedLog { lsn }) => {
-                    patience.has_aged = false;
-                    let unlogged = Unlogged::new(part, state);
-                    let locked = self.reach_log(part, lsn)?;
-                    unlogged.end();
-                    locked
+                    patience.had_turn = true;
+                    self.log_victim(part, lsn, state, &mut failed)?
                 }
                 Err(Error::Busy) => {
-                    patience.has_aged = false;
                     let (locked, fault) = part.wait_for_read(state, own, waited)?;
                     if let Some(fault) = fault.filter(|_| !asked.is_new) {
                         drop(locked);
@@ -517,15 +538,66 @@ impl<F: PageIo> SharedPager<F> {
                     }
                     locked
                 }
-                Err(Error::NoVictim) => patience.make_way(state)?,
+                Err(Error::NoVictim) => {
+                    (state, fixed) = part.find_frame(state, own, &mut patience, &failed);
+                    if let Err(Error::NoVictim) = fixed {
+                        state.unused_ticks += 1;
+                        return Err(failed.refusal(Error::NoVictim));
+                    }
+                    continue;
+                }
                 Err(error) => return Err(error.into()),
             };
             state = part.with_image(state)?;
-            if asked.is_new {
-                part.drop_ahead(&mut state, own);
-            }
-            fixed = part.ask(&mut state, own);
+            patience.had_turn |= asked.is_new && part.drop_ahead(&mut state, own);
+            fixed = part.ask_in_turn(&mut state, own, patience.had_turn);
         }
+    }
+
+    /// Writes a victim out, or sets it aside. The part is locked then.
+    fn write_victim<'a>(
+        &self,
+        part: &'a Part,
+        lsn: u64,
+        mut writing: Writing<'a>,
+        failed: &mut Failed<'a>,
+    ) -> Result<Locked<'a>, PagerError> {
+        let victim = part.in_file(writing.page().unwrap_or_default());
+        if let Err(fault) = self.write_image(victim, lsn, &mut writing) {
+            failed.note(fault);
+            failed.keep(writing.set_aside())?;
+            return Ok(part.lock());
+        }
+        Ok(writing.end_of_victim()?)
+    }
+
+    /// Makes the log record of the part's victim durable, or sets the victim aside. It does not ask the
+    /// log again for what that could not do. The part is locked then.
+    fn log_victim<'a>(
+        &self,
+        part: &'a Part,
+        lsn: u64,
+        mut state: Locked<'a>,
+        failed: &mut Failed<'a>,
+    ) -> Result<Locked<'a>, PagerError> {
+        let victim = state.pool.victim().ok_or(Error::NoVictim)?;
+        if failed.lost_log.check(&self.log, lsn).is_ok() {
+            drop(state);
+            let unlogged = Unlogged::new(part, victim);
+            let reached = self.reach_log(part, lsn);
+            unlogged.end();
+            match reached {
+                Ok(locked) => return Ok(locked),
+                Err(fault) => failed.note(fault),
+            }
+            state = part.lock();
+        }
+        // Else another thread has used or written out the page, and there is another victim.
+        if state.pool.victim() == Some(victim) {
+            failed.keep(part.set_aside(state, victim))?;
+            state = part.lock();
+        }
+        Ok(state)
     }
 
     fn load<'a>(
@@ -556,19 +628,28 @@ impl<F: PageIo> SharedPager<F> {
         }
     }
 
+    /// Writes a page out, and ends its write-out.
     pub(super) fn write_out(
         &self,
         page: u64,
         lsn: u64,
         mut writing: Writing<'_>,
     ) -> Result<(), PagerError> {
+        self.write_image(page, lsn, &mut writing)?;
+        Ok(writing.end()?)
+    }
+
+    /// Has the engine write the image of a page.
+    fn write_image(
+        &self,
+        page: u64,
+        lsn: u64,
+        writing: &mut Writing<'_>,
+    ) -> Result<(), PagerError> {
         let written = within::call(self.number, Work::page(page), || {
             self.io.write_page(page, &mut writing.image, lsn)
         });
-        match written {
-            Ok(()) => Ok(writing.end()?),
-            Err(source) => Err(PagerError::Write { page, source }),
-        }
+        written.map_err(|source| PagerError::Write { page, source })
     }
 
     /// Makes the log durable, and marks it in the part, which is locked then.
@@ -577,65 +658,6 @@ impl<F: PageIo> SharedPager<F> {
         let state = part.lock();
         state.pool.mark(0, self.log.durable())?;
         Ok(state)
-    }
-}
-
-/// How long a call waits for a page that can be evicted. If it is dropped, and had slept, another
-/// thread that waits is woken: what woke this one may be of use to that.
-struct Patience<'a> {
-    part: &'a Part,
-    /// None where it does not wait.
-    most: Option<Duration>,
-    began: Option<Instant>,
-    has_aged: bool,
-}
-
-impl<'a> Patience<'a> {
-    fn new(part: &'a Part, most: Option<Duration>) -> Patience<'a> {
-        Patience {
-            part,
-            most,
-            began: None,
-            has_aged: false,
-        }
-    }
-
-    /// Gives passes back that are not used; if all pages that could make way are too young, moves the
-    /// clock on; and if there are none, sleeps until a page is unpinned.
-    fn make_way(&mut self, mut state: Locked<'a>) -> Result<Locked<'a>> {
-        let part = self.part;
-        if part.make_way(&mut state, usize::MAX) > 0 {
-            return Ok(state);
-        }
-        part.give_all_back(&mut state);
-        self.has_aged = !self.has_aged && part.has_unused(&state);
-        if self.has_aged {
-            let period = state.pool.config().correlated;
-            // At the end of its clock the part can only wait.
-            let _ = part.tick(&mut state, period + 1);
-            return Ok(state);
-        }
-        if let Some(left) = self.left() {
-            let has_come = |state: &mut _| part.give_all_back(state) > 0;
-            return Ok(part.wait_for_frame(state, left, has_come));
-        }
-        state.unused_ticks += 1;
-        Err(Error::NoVictim)
-    }
-
-    /// How long it may still wait. None where it may not.
-    fn left(&mut self) -> Option<Duration> {
-        let most = self.most?;
-        let began = *self.began.get_or_insert_with(Instant::now);
-        most.checked_sub(began.elapsed()).filter(|it| !it.is_zero())
-    }
-}
-
-impl Drop for Patience<'_> {
-    fn drop(&mut self) {
-        if self.began.is_some() {
-            self.part.wake_for_frame();
-        }
     }
 }
 

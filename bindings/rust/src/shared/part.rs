@@ -5,13 +5,15 @@ use super::faults::{Fault, Faults};
 use super::firsts::Firsts;
 use super::kept::Kept;
 use super::latch::Queues;
+use super::line::{GROUPS, Line};
 use super::own;
 use super::places::Places;
 use super::seats::{FreeSeats, Seat, Seats, filled, list_of};
 use super::within::{self, Waited};
 use crate::image::Image;
 use crate::{
-    Config, Error, Fixed, Flushed, Pass, Pool, ReadTicket, Result, UnsavedPage, WriteTicket,
+    Config, Error, Fixed, Flushed, PageGuard, Pass, Pool, ReadTicket, Result, UnsavedPage,
+    WriteTicket,
 };
 use std::hint::spin_loop;
 use std::mem;
@@ -33,8 +35,9 @@ pub(super) struct Part {
     pub(super) page_size: usize,
     /// What the clock of the pool is. It changes under the lock.
     now: AtomicU64,
-    /// The number of threads that wait for a page to be unpinned, and [`NOTES`] where latches are noted.
-    waiting: AtomicUsize,
+    /// The number of threads that wait for a frame, or for a page to be unpinned, and [`NOTES`] where latches
+    /// are noted.
+    pub(super) waiting: AtomicUsize,
     /// Whether any pass stays out.
     pub(super) keeps: bool,
     /// Whether each pin is told to the pool.
@@ -63,11 +66,10 @@ struct Apart {
     queues: Queues,
     /// The device work on a page has ended, which has the place of its number.
     worked: [Condvar; PLACES],
-    /// A page was unpinned, or the device work on it has ended.
+    /// It is the turn of a group in line for a frame, and one may be had; or its page is in a frame.
+    turns: [Condvar; GROUPS],
+    /// A page was unpinned, for threads that wait for one page alone, all of which are told.
     let_go: Condvar,
-    /// The same, for threads that wait for one page alone. What is told to one thread of `let_go` is told
-    /// to all of these: so none of them takes it from who waits for a frame.
-    one_let_go: Condvar,
 }
 
 pub(super) struct State {
@@ -94,6 +96,9 @@ pub(super) struct State {
     /// references that the pool was asked for afterwards, which are hits to it.
     pub(super) joined: u64,
     pub(super) referred: u64,
+    pub(super) line: Line,
+    /// The number of pages that calls have set aside, since they could not be written out.
+    pub(super) aside: usize,
     /// The number of times that a thread slept.
     pub(super) waits: u64,
     /// The page from which the next unsaved page to clean is looked for, and the victim that was
@@ -160,8 +165,8 @@ impl Part {
                 state: Mutex::new(state),
                 queues: Queues::new(config.frames)?,
                 worked: [const { Condvar::new() }; PLACES],
+                turns: [const { Condvar::new() }; GROUPS],
                 let_go: Condvar::new(),
-                one_let_go: Condvar::new(),
             },
         })
     }
@@ -275,30 +280,10 @@ impl Part {
         Ok((state, fault.flatten()))
     }
 
-    /// Sleeps until some page is unpinned, or for at most `most`. It does not where what is waited
-    /// for has come: that is asked once other threads see that one waits.
-    pub(super) fn wait_for_frame<'a>(
-        &self,
-        state: Locked<'a>,
-        most: Duration,
-        has_come: impl FnOnce(&mut State) -> bool,
-    ) -> Locked<'a> {
-        self.wait_for(&self.locked.let_go, state, most, has_come)
-    }
-
-    /// The same for one page, whichever is unpinned.
+    /// Sleeps until some page is unpinned, or for at most `most`. It does not where what is waited for has
+    /// come: that is asked once other threads see that one waits.
     pub(super) fn wait_for_page<'a>(
         &self,
-        state: Locked<'a>,
-        most: Duration,
-        has_come: impl FnOnce(&mut State) -> bool,
-    ) -> Locked<'a> {
-        self.wait_for(&self.locked.one_let_go, state, most, has_come)
-    }
-
-    fn wait_for<'a>(
-        &self,
-        let_go: &Condvar,
         mut state: Locked<'a>,
         most: Duration,
         has_come: impl FnOnce(&mut State) -> bool,
@@ -306,14 +291,19 @@ impl Part {
         self.waiting.fetch_add(1, Ordering::SeqCst);
         if !has_come(&mut state) {
             state.waits += 1;
-            let waited = let_go.wait_timeout(state, most);
+            let waited = self.locked.let_go.wait_timeout(state, most);
             (state, _) = waited.unwrap_or_else(PoisonError::into_inner);
         }
         self.waiting.fetch_sub(1, Ordering::SeqCst);
         state
     }
 
-    /// Whether threads wait for a page to be unpinned.
+    /// Where the group with this place in line sleeps.
+    pub(super) fn turns(&self, place: usize) -> &Condvar {
+        &self.locked.turns[place]
+    }
+
+    /// Whether threads wait for a frame, or for a page to be unpinned.
     pub(super) fn has_waiting(&self) -> bool {
         self.waiting.load(Ordering::SeqCst) % NOTES != 0
     }
@@ -344,21 +334,54 @@ impl Part {
         }
     }
 
-    /// Wakes a thread that waits for a page to be unpinned, if there is one, and all that wait for one
-    /// page. What has happened did so under the lock, or the lock was taken since.
-    pub(super) fn wake_for_frame(&self) {
-        if self.has_waiting() {
-            self.locked.let_go.notify_one();
-            self.locked.one_let_go.notify_all();
+    /// Wakes who is first in line for a frame, if anybody is.
+    pub(super) fn wake_first(&self, state: &State) {
+        if let Some(place) = state.line.first_place() {
+            self.wake_turn(place, state.aside > 0);
         }
+    }
+
+    /// Wakes one call of a group in line. But all where some may have to be refused: while pages are set
+    /// aside, those that did so are in the first group.
+    fn wake_turn(&self, place: usize, has_aside: bool) {
+        match has_aside {
+            true => self.turns(place).notify_all(),
+            false => self.turns(place).notify_one(),
+        }
+    }
+
+    /// Wakes the calls in line that want a page which has come into a frame.
+    pub(super) fn wake_in_line(&self, state: &State, page: u64) {
+        for place in state.line.places_of(page) {
+            self.turns(place).notify_all();
+        }
+    }
+
+    /// Unlocks the part, and wakes who is first in line for a frame, and all that wait for one page. What
+    /// has happened did so under the lock, or the lock was taken since.
+    pub(super) fn wake_for_frame(&self, state: Locked<'_>) {
+        if !self.has_waiting() {
+            return;
+        }
+        let (first, has_aside) = (state.line.first_place(), state.aside > 0);
+        drop(state);
+        if let Some(place) = first {
+            self.wake_turn(place, has_aside);
+        }
+        self.locked.let_go.notify_all();
     }
 
     /// Unlocks the part, and wakes the threads that wait for the end of the device work on a page.
     pub(super) fn wake(&self, state: Locked<'_>, page: u64) {
         let has_sleepers = state.has_sleepers(page);
-        drop(state);
+        self.wake_for_frame(state);
         self.wake_for_work(page, has_sleepers);
-        self.wake_for_frame();
+    }
+
+    /// The same with the lock kept, of a page that nobody waits for alone.
+    pub(super) fn wake_under(&self, state: &State, page: u64) {
+        self.wake_for_work(page, state.has_sleepers(page));
+        self.wake_first(state);
     }
 
     pub(super) fn wake_for_work(&self, page: u64, has_sleepers: bool) {
@@ -555,18 +578,31 @@ impl Part {
         let Some(seat) = self.seats.of(page) else {
             return false;
         };
-        // A page that is in a frame needs no image.
-        let State { pool, scratch, .. } = state;
-        let is_hit = matches!(pool.fix(0, page, scratch), Ok(Fixed::Hit(_)));
+        let is_hit = self.hit(state, page).is_some();
         if is_hit {
             state.kept.refer(seat, state.now);
         }
         is_hit
     }
 
-    /// Has the next call choose another victim than this one, whose log record could not be made
-    /// durable: if it still is the victim, it counts as used now.
-    fn pass_over(&self, victim: u64) {
+    /// Asks the pool for a page that is in a frame. Such a page needs no image.
+    pub(super) fn hit<'s>(&self, state: &'s mut State, page: u64) -> Option<PageGuard<'s>> {
+        let State { pool, scratch, .. } = state;
+        match pool.fix(0, page, scratch) {
+            Ok(Fixed::Hit(page)) => Some(page),
+            _ => None,
+        }
+    }
+
+    /// Whether a thread reads a page that is in no frame.
+    pub(super) fn is_read(&self, state: &mut State, page: u64) -> bool {
+        let State { pool, scratch, .. } = state;
+        matches!(pool.flush(0, page, scratch), Err(Error::Busy))
+    }
+
+    /// Has the next call choose another victim than this one, for which the log panicked: if it still is
+    /// the victim, it counts as used now.
+    pub(super) fn pass_over(&self, victim: u64) {
         let mut state = self.lock();
         if state.pool.victim() == Some(victim) {
             self.refer_to(&mut state, victim);
@@ -657,34 +693,6 @@ impl Part {
     }
 }
 
-/// A victim whose log record is made durable. If this is dropped before that, the victim is passed
-/// over.
-pub(super) struct Unlogged<'a> {
-    part: &'a Part,
-    victim: Option<u64>,
-}
-
-impl<'a> Unlogged<'a> {
-    /// Notes the page that the pool refused to write out. The part's lock is opened.
-    pub(super) fn new(part: &'a Part, state: Locked<'_>) -> Unlogged<'a> {
-        let victim = state.pool.victim();
-        Unlogged { part, victim }
-    }
-
-    /// Notes that its record is durable.
-    pub(super) fn end(mut self) {
-        self.victim = None;
-    }
-}
-
-impl Drop for Unlogged<'_> {
-    fn drop(&mut self) {
-        if let Some(victim) = self.victim {
-            self.part.pass_over(victim);
-        }
-    }
-}
-
 /// Has the processor fetch a line of memory into its cache, as one to which this thread will write,
 /// while it does other work.
 #[inline]
@@ -743,6 +751,8 @@ impl State {
             faults: Faults::new()?,
             joined: 0,
             referred: 0,
+            line: Line::new(),
+            aside: 0,
             waits: 0,
             clean_from: 0,
             cleaned_victim: None,

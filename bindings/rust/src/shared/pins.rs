@@ -1,6 +1,6 @@
 //! How the guards of a part's pages are made and end, and which passes of the pool stay out.
 use super::guards::{PageMut, PagePin, PageRef, Share};
-use super::part::{Fix, Locked, Part, State};
+use super::part::{Locked, Part, State};
 use super::seats::{Pinned, Seat};
 use super::word::{PIN, READER, WRITER, Word};
 use crate::{Error, Pass, Result};
@@ -175,8 +175,9 @@ impl Part {
             self.hand_over(seat);
         }
         if left.is_over() || (!left.is_used() && self.has_waiting()) {
-            self.end_use(&mut self.lock(), seat);
-            self.wake_for_frame();
+            let mut state = self.lock();
+            self.end_use(&mut state, seat);
+            self.wake_for_frame(state);
         }
     }
 
@@ -294,11 +295,9 @@ impl Part {
             let before = seat.add_pin();
             return self.with_pin(state, seat, before);
         }
-        match self.ask(&mut state, page)? {
-            Fix::Here(pass) => self.pinned(state, pass, Came::Here),
-            // This can't be.
-            Fix::Read(_) | Fix::Write(_) => Err(Error::UnknownTicket),
-        }
+        let hit = self.hit(&mut state, page).ok_or(Error::UnknownPass)?;
+        let pass = hit.into_pass();
+        self.pinned(state, pass, Came::Here)
     }
 
     /// Whether a thread has the exclusive latch of a seat's page. If none has it nobody writes to the

@@ -31,6 +31,8 @@
 //! - **Who waits for a frame** adds to the part's `waiting` (SeqCst), looks at the words (SeqCst), and
 //!   sleeps, all under the part's lock. Who lets go looks at `waiting` (SeqCst) after it took its share
 //!   back (SeqCst), and takes the lock before it wakes: so one of both sees the other.
+//!   Of those in line for a frame only who is first looks, and who leaves the line as the first wakes the next:
+//!   see [`Line`].
 //! - **STAYS and joins** are for [`Part::make_way`]. Without STAYS the last share gives the pass back,
 //!   under the lock. Joins are counted as shares are added, and taken under the lock. A page that was read
 //!   ahead has STAYS from the first, before any share but the reader's.
@@ -45,6 +47,7 @@
 //!
 //! [`Part::write`]: super::part::Part::write
 //! [`Part::make_way`]: super::part::Part::make_way
+//! [`Line`]: super::line::Line
 //! [`Queues`]: super::latch::Queues
 //! [`Queues::hand_over`]: super::latch::Queues::hand_over
 use super::word::{JOIN, PIN, READER, Word};

@@ -28,7 +28,7 @@ pub struct Stats {
     /// Pages that were written to since they were saved.
     pub unsaved: usize,
     /// The number of times that a thread slept until a page was read, written out or unpinned, its latch
-    /// was free, or another thread had made the log durable.
+    /// was free, or another thread had made the log durable or synced the device.
     pub waits: u64,
     /// Pages in no frame whose references are kept, approximately: the pools below do not tell it, so
     /// it is counted as pages leave, are read again, and are forgotten. See
@@ -58,7 +58,7 @@ impl<F> SharedPager<F> {
     /// Returns the counters.
     pub fn stats(&self) -> Stats {
         let mut stats = Stats {
-            waits: self.log.waits(),
+            waits: self.log.waits() + self.syncs.waits(),
             ..Stats::default()
         };
         for part in &self.parts {
@@ -248,7 +248,7 @@ impl End {
 impl<F: PageIo + Send + Sync + 'static> SharedPager<F> {
     /// Starts a thread that writes out at most `most` pages, rests for a while, and begins again,
     /// as [`clean`](SharedPager::clean) does. A page that cannot be written out stays unsaved, and
-    /// is tried again: a call that needs its frame gets the fault.
+    /// is tried again: a call for which no other page can make way gets the fault.
     ///
     /// # Errors
     /// Where the system has no thread for it.

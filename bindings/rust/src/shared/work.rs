@@ -1,4 +1,5 @@
 //! Device work that is under way: a read, and a write-out. On every way out it ends.
+use super::aside::SetAside;
 use super::faults::Fault;
 use super::guards::PagePin;
 use super::part::{Locked, Part};
@@ -81,6 +82,9 @@ impl<'a> Reading<'a> {
         let page = pass.page();
         state.free.give(&part.seats, page);
         self.image = state.keep(mem::take(&mut self.image)).unwrap_or_default();
+        if !state.line.is_empty() {
+            part.wake_in_line(&state, page);
+        }
         Ok((state, pass))
     }
 
@@ -154,6 +158,21 @@ impl<'a> Writing<'a> {
 
     /// Ends the write-out where it succeeded.
     pub(super) fn end(&mut self) -> Result<()> {
+        let (state, page) = self.arrive()?;
+        self.part.wake(state, page);
+        Ok(())
+    }
+
+    /// Ends a victim's write-out where it succeeded. The lock is kept: so no other call takes the frame.
+    pub(super) fn end_of_victim(mut self) -> Result<Locked<'a>> {
+        let (state, page) = self.arrive()?;
+        self.part.wake_under(&state, page);
+        Ok(state)
+    }
+
+    /// Notes that the image is on the device, and returns the page, with the part locked.
+    #[inline]
+    fn arrive(&mut self) -> Result<(Locked<'a>, u64)> {
         let ticket = self.ticket.take().ok_or(Error::UnknownTicket)?;
         let page = ticket.page();
         let mut state = self.part.lock();
@@ -162,16 +181,18 @@ impl<'a> Writing<'a> {
             state.firsts.arrive(seat);
         }
         self.image = state.keep(mem::take(&mut self.image)).unwrap_or_default();
-        self.part.wake(state, page);
-        Ok(())
+        Ok((state, page))
     }
-}
 
-impl Drop for Writing<'_> {
-    fn drop(&mut self) {
-        let Some(ticket) = self.ticket.take() else {
-            return;
-        };
+    /// Ends a victim's write-out as failed, and sets the page aside.
+    pub(super) fn set_aside(mut self) -> Result<SetAside<'a>> {
+        let (state, page) = self.fail().ok_or(Error::UnknownTicket)?;
+        self.part.set_aside(state, page)
+    }
+
+    /// Ends the write-out as failed, if it is under way, and returns the page, with the part locked.
+    fn fail(&mut self) -> Option<(Locked<'a>, u64)> {
+        let ticket = self.ticket.take()?;
         let page = ticket.page();
         let mut state = self.part.lock();
         // A ticket of this pool that is out is always taken.
@@ -180,6 +201,18 @@ impl Drop for Writing<'_> {
             state.firsts.come_back(seat);
         }
         self.image = state.keep(mem::take(&mut self.image)).unwrap_or_default();
+        Some((state, page))
+    }
+}
+
+impl Drop for Writing<'_> {
+    fn drop(&mut self) {
+        if self.ticket.is_none() {
+            return;
+        }
+        let Some((mut state, page)) = self.fail() else {
+            return;
+        };
         if self.is_victim {
             self.part.refer_to(&mut state, page);
         }

@@ -1,5 +1,6 @@
 //! A shared pager's flushes and checkpoints: which pages go out, and neighbours in one write.
 use super::guards::PageRef;
+use super::log::LostLog;
 use super::pager::SharedPager;
 use super::part::{FEW_PAGES, Part};
 use super::seats::list_of;
@@ -7,9 +8,6 @@ use super::within::{self, Waited, Work};
 use super::work::Writing;
 use crate::image::Image;
 use crate::{Error, PageIo, PagerError, Result, UnsavedPage};
-use std::sync::atomic::{AtomicBool, Ordering};
-use std::sync::{Mutex, PoisonError};
-use std::{io, mem};
 
 /// A flush makes the log durable so often without a latch of its page. Then it keeps the latch.
 const MOST_ROUNDS: u32 = 2;
@@ -79,50 +77,6 @@ impl Part {
     }
 }
 
-/// The turn to sync the device, and whether a sync failed.
-#[derive(Default)]
-pub(super) struct Syncs {
-    turn: Mutex<()>,
-    has_failed: AtomicBool,
-}
-
-/// A sync that is under way. If it is dropped before its end it has failed.
-struct Syncing<'a>(&'a AtomicBool);
-
-impl Drop for Syncing<'_> {
-    fn drop(&mut self) {
-        self.0.store(true, Ordering::SeqCst);
-    }
-}
-
-impl Syncs {
-    /// # Errors
-    /// [`PagerError::SyncFailedBefore`] where an earlier sync failed.
-    fn check(&self) -> Result<(), PagerError> {
-        match self.has_failed.load(Ordering::SeqCst) {
-            false => Ok(()),
-            true => Err(PagerError::SyncFailedBefore),
-        }
-    }
-
-    /// Syncs the device for the pager with this number. One thread does so at a time: a sync that goes
-    /// well beside one that fails does not say that all was kept.
-    fn sync<F: PageIo>(&self, io: &F, pager: u64) -> Result<(), PagerError> {
-        if within::is_within(pager, |work| work == Work::Sync) {
-            let why = "sync called for a checkpoint, which needs another sync";
-            let source = io::Error::new(io::ErrorKind::Deadlock, why);
-            return Err(PagerError::Sync { source });
-        }
-        let _turn = self.turn.lock().unwrap_or_else(PoisonError::into_inner);
-        self.check()?;
-        let syncing = Syncing(&self.has_failed);
-        within::call(pager, Work::Sync, || io.sync())
-            .map_err(|source| PagerError::Sync { source })?;
-        mem::forget(syncing);
-        Ok(())
-    }
-}
-
 /// Pages side by side that are being written out by one call. Where it is dropped before its end, each
 /// is unsaved.
 struct Run<'a> {
@@ -181,8 +135,8 @@ impl<F: PageIo> SharedPager<F> {
     }
 
     /// Writes a page out if it is unsaved. It waits for a thread that writes to the page, as one that
-    /// wants to read it, and for one that writes it out. The page may be unsaved again by later
-    /// writes.
+    /// wants to read it, and for one that writes it out. It ends with a write-out that began after the call
+    /// and went well: its own, or that of another thread. The page may be unsaved again by later writes.
     ///
     /// While the device or the log works it has no latch: the page can be written to. But where that
     /// was done twice before the log was durable, it has the shared latch while the log is made
@@ -194,21 +148,34 @@ impl<F: PageIo> SharedPager<F> {
     /// has no such page, with [`OutOfMemory`](Error::OutOfMemory), and in a function of [`PageIo`]
     /// with [`Busy`](Error::Busy).
     pub fn flush(&self, page: u64) -> Result<(), PagerError> {
-        match self.take_out(page)? {
+        self.flush_one(page, &mut LostLog::default())
+    }
+
+    /// The same in a call that may have found that the log could not be made durable.
+    fn flush_one(&self, page: u64, lost: &mut LostLog) -> Result<(), PagerError> {
+        match self.take_out(page, lost)? {
             Some((lsn, writing)) => self.write_out(page, lsn, writing),
             None => Ok(()),
         }
     }
 
     /// Begins to write a page out, with its image as it is between the guards of its writers, and
-    /// returns its page LSN. It is None where there is nothing to write.
-    fn take_out(&self, page: u64) -> Result<Option<(u64, Writing<'_>)>, PagerError> {
+    /// returns its page LSN. It is None where there is nothing to write: the page is saved, or was
+    /// written out by another thread since this call began.
+    fn take_out(
+        &self,
+        page: u64,
+        lost: &mut LostLog,
+    ) -> Result<Option<(u64, Writing<'_>)>, PagerError> {
         let (part, own) = self.place(page)?;
         let mut latch: Option<PageRef<'_>> = None;
-        let (mut rounds, waited) = (0, Waited::default());
+        let (mut rounds, mut began) = (0, None);
+        let waited = Waited::default();
         loop {
             let mut state = part.with_image(part.lock())?;
-            let Some(number) = part.unsaved_seat(&state, own) else {
+            let began = *began.get_or_insert(state.firsts.begun());
+            let unsaved = part.unsaved_seat(&state, own);
+            let Some(number) = unsaved.filter(|it| !state.firsts.has_arrived(*it, began)) else {
                 return Ok(None);
             };
             // A page is written out between the writes of its writers, and not within them. They write
@@ -217,7 +184,11 @@ impl<F: PageIo> SharedPager<F> {
                 latch = Some(part.pin_under(state, own)?.into_read(&waited)?);
                 continue;
             }
-            match part.ask_out(&mut state, own) {
+            let asked = match state.firsts.is_awaited(number, own) {
+                true => Err(Error::Busy),
+                false => part.ask_out(&mut state, own),
+            };
+            match asked {
                 // The lock is opened before the latch is freed, here and below.
                 Ok(Some(ticket)) => {
                     let lsn = ticket.lsn();
@@ -227,7 +198,8 @@ impl<F: PageIo> SharedPager<F> {
                     drop(state);
                     latch = latch.filter(|_| rounds >= MOST_ROUNDS);
                     rounds += 1;
-                    drop(self.reach_log(part, lsn)?);
+                    self.reach_unless_lost(lsn, lost)?;
+                    part.lock().pool.mark(0, self.log.durable())?;
                 }
                 Err(Error::Busy) if latch.is_some() => {
                     drop(state);
@@ -242,9 +214,30 @@ impl<F: PageIo> SharedPager<F> {
         }
     }
 
+    /// Makes the log durable up to this LSN, but asks it for nothing that it could not do in this call.
+    fn reach_unless_lost(&self, lsn: u64, lost: &mut LostLog) -> Result<(), PagerError> {
+        lost.check(&self.log, lsn)?;
+        let reached = self.log.reach(&self.io, self.number, lsn);
+        reached.inspect_err(|fault| lost.note(fault))
+    }
+
+    /// Makes the log durable once for all of these pages. If that cannot be done, the log is asked for the
+    /// page of the least LSN: so one that can do nothing is not asked for each page.
+    fn reach_for_all(&self, pages: &[UnsavedPage], lost: &mut LostLog) -> Result<(), PagerError> {
+        let durable = self.log.durable();
+        let lsns = pages.iter().map(|it| it.lsn).filter(|lsn| *lsn > durable);
+        let (least, greatest) = (lsns.clone().min(), lsns.max());
+        let reached = self.reach_unless_lost(greatest.unwrap_or(0), lost);
+        if reached.is_err() {
+            let _ = self.reach_unless_lost(least.unwrap_or(0), lost);
+        }
+        reached
+    }
+
     /// Writes out those of these pages that are unsaved, in the order of the file, as
-    /// [`flush`](SharedPager::flush) does. It makes the log durable once for all of them. Several threads
-    /// may do so at once, each with a share of the pages.
+    /// [`flush`](SharedPager::flush) does. It makes the log durable once for all of them. If that fails, it
+    /// asks the log once more for the page of the least LSN, and then for no record that is as late as one
+    /// for which the log failed. Several threads may do so at once, each with a share of the pages.
     ///
     /// Pages side by side go out by one call of [`PageIo::write_pages`], up to
     /// [`PageIo::most_pages`] and 256 pages and 1 MiB: but a page whose record is not durable, that a
@@ -283,17 +276,16 @@ impl<F: PageIo> SharedPager<F> {
 
     /// Writes these pages out, which are in the order of the file.
     fn flush_all(&self, pages: &[UnsavedPage]) -> Result<(), PagerError> {
-        // Makes the log durable once for all of them.
-        let greatest = pages.iter().map(|it| it.lsn).max().unwrap_or(0);
-        let mut done = self.log.reach(&self.io, self.number, greatest);
+        let mut lost = LostLog::default();
+        let mut done = self.reach_for_all(pages, &mut lost);
         let most = self.most_in_a_row();
         let mut rest = pages;
         while let Some(first) = rest.first() {
             let numbers = rest.iter().map(|it| it.page).take(most);
             let row = (first.page..).zip(numbers).take_while(|(a, b)| a == b);
             let (count, flushed) = match row.count() {
-                1 => (1, self.flush(first.page)),
-                count => self.flush_row(first.page, count),
+                1 => (1, self.flush_one(first.page, &mut lost)),
+                count => self.flush_row(first.page, count, &mut lost),
             };
             rest = &rest[count..];
             done = done.and(flushed);
@@ -303,8 +295,13 @@ impl<F: PageIo> SharedPager<F> {
 
     /// Writes out the first of these pages side by side, and those after it that can be had at once. It
     /// returns how many these were: the next one begins a row of its own.
-    fn flush_row(&self, first: u64, count: usize) -> (usize, Result<(), PagerError>) {
-        let (lsn, writing) = match self.take_out(first) {
+    fn flush_row(
+        &self,
+        first: u64,
+        count: usize,
+        lost: &mut LostLog,
+    ) -> (usize, Result<(), PagerError>) {
+        let (lsn, writing) = match self.take_out(first, lost) {
             Ok(Some(begun)) => begun,
             other => return (1, other.map(drop)),
         };
@@ -318,7 +315,10 @@ impl<F: PageIo> SharedPager<F> {
         let written = self.write_run(run).or_else(|fault| match count {
             1 => Err(fault),
             // One by one, so that each that can be written out is.
-            _ => pages.map(|page| self.flush(page)).fold(Ok(()), Result::and),
+            _ => {
+                let mut flush = |page| self.flush_one(page, lost);
+                pages.map(&mut flush).fold(Ok(()), Result::and)
+            }
         });
         (count, written)
     }
@@ -330,7 +330,8 @@ impl<F: PageIo> SharedPager<F> {
         };
         let mut state = part.lock();
         let seat = part.unsaved_seat(&state, own);
-        if seat.is_none_or(|number| part.is_written(number)) {
+        let stands_back = |number| part.is_written(number) || state.firsts.is_awaited(number, own);
+        if seat.is_none_or(stands_back) {
             return false;
         }
         // Each part is told by itself how far the log is durable.
@@ -391,7 +392,8 @@ impl<F: PageIo> SharedPager<F> {
 
     /// Syncs the device, by [`PageIo::sync`], and returns the LSN from which redo must begin then: the
     /// least among the writes that may not be on the device, as [`checkpoint`](SharedPager::checkpoint)
-    /// does. It writes no page out.
+    /// does. It writes no page out. One sync
+    /// serves all calls that came before it began.
     ///
     /// # Errors
     /// [`PagerError::Sync`] and [`PagerError::SyncFailedBefore`], as

@@ -255,26 +255,25 @@ fn mark_never_falls() {
     follow(&pager(1, 1000, 1), rows);
 }
 
-// Of two frames, with two stamps: as the reckoned trail of `tests/worked_rows`, but that page 1 is
-// flushed before it leaves, and that it counts as used where it could not make way. So the second
-// reference of page 2 is older in the end.
+// Of two frames, with two stamps. Page 2 has references of times 1 and 2, and page 1 one of time 3. So
+// page 1 has to make way at 4, but its log record cannot be made durable: it counts as used then, and
+// page 2 makes way. At 5 page 3 leaves for page 2, which can't be read, and is at 6. At 7 page 2 leaves,
+// since its second reference is of time 2, and that of page 1 is of time 3.
 #[test]
 fn reckoned_trail() {
     let rows = [
-        (Do::Put(1, 7, 5), asks([Asked::Read(1)])),
         (Do::Look(2), asks([Asked::Read(2)])),
         (Do::Look(2), asks([])),
+        (Do::Put(1, 7, 5), asks([Asked::Read(1)])),
         (Do::Next(Fate::Fails), asks([])),
-        (
-            Do::Look(3),
-            refused(Error::NeedLog { lsn: 5 }, [Asked::Log(5)]),
-        ),
+        (Do::Look(3), asks([Asked::Log(5), Asked::Read(3)])),
+        (Do::Frames, pages([1, 3])),
         (Do::Mark(5), asks([])),
         (Do::Flush(1), asks([Asked::Write(1, 7, 5)])),
         (Do::Next(Fate::Fails), asks([])),
-        (Do::Look(3), refused(Error::ReadFailed, [Asked::Read(3)])),
-        (Do::Frames, pages([2])),
-        (Do::Look(1), asks([Asked::Read(1)])),
+        (Do::Look(2), refused(Error::ReadFailed, [Asked::Read(2)])),
+        (Do::Frames, pages([1])),
+        (Do::Look(2), asks([Asked::Read(2)])),
         (Do::Flush(1), asks([])),
         (Do::Purge, Gives::Number(0)),
         (Do::Look(4), asks([Asked::Read(4)])),
