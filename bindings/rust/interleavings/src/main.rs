@@ -1,6 +1,7 @@
 //! Tries every interleaving of the protocols by which the threads of a shared pager take latches and frames.
 //! README.md says what is tried, and which lines of the pager each step stands for.
 mod explore;
+mod frames;
 mod latch;
 mod runs;
 // What the pager runs. Some of its functions are of no use here.

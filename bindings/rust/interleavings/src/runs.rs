@@ -1,5 +1,6 @@
 //! The runs: which models are tried, how large, and what is to come of each.
 use crate::explore::{Explored, Model, explore};
+use crate::frames::{self, Frames, Kind};
 use crate::latch::{self, Latch};
 use std::time::Instant;
 
@@ -66,33 +67,36 @@ impl Run {
 
 /// All runs of a size, the longest first.
 pub fn all(size: Size) -> Vec<Run> {
-    let mut runs = latches(size);
+    let mut runs = Vec::new();
+    if size == Size::Full {
+        runs.extend(large_runs());
+    }
+    runs.extend(latches());
+    runs.extend(frames());
     runs.extend(weakened_latches());
+    runs.extend(weakened_frames());
     runs
 }
 
+/// One, the other, or either.
+const GOOD: &[bool] = &[true];
+const BAD: &[bool] = &[false];
+const ANY: &[bool] = &[true, false];
+const NONE: &[bool] = &[];
+
 const LATCH: Latch<3> = Latch {
-    stays: &[true, false],
+    stays: ANY,
     forgotten: 0,
     weakness: None,
 };
 
-fn latches(size: Size) -> Vec<Run> {
-    let mut runs = Vec::new();
-    if size == Size::Full {
-        let five = Latch::<5> {
-            stays: &[true],
-            forgotten: 0,
-            weakness: None,
-        };
-        runs.push(Run::of("latch: five threads, passes that stay", five));
-    }
+fn latches() -> Vec<Run> {
     let four = Latch::<4> {
-        stays: LATCH.stays,
+        stays: ANY,
         forgotten: 0,
         weakness: None,
     };
-    runs.push(Run::of("latch: four threads", four));
+    let mut runs = vec![Run::of("latch: four threads", four)];
     for left in 0..3 {
         let crowded = Latch::<3> {
             forgotten: latch::MOST_PINS - left,
@@ -104,13 +108,119 @@ fn latches(size: Size) -> Vec<Run> {
     runs
 }
 
-fn weakened_latches() -> Vec<Run> {
-    let weakened = latch::WEAKNESSES.iter().map(|weakness| {
-        let latch = Latch::<3> {
-            weakness: Some(*weakness),
-            ..LATCH
-        };
-        Run::weak(&format!("latch, weakened: {weakness:?}"), latch)
-    });
-    weakened.collect()
+fn weakened_latches() -> impl Iterator<Item = Run> {
+    use latch::Weakness as Weak;
+    let weaknesses = [
+        Weak::StrayCallsNobody,
+        Weak::MissedCallsNobody,
+        Weak::QueuesThoughFree,
+        Weak::ForgetsSecond,
+        Weak::WriterSleepsOn,
+        Weak::WriterUnqueues,
+        Weak::JoinsBesideWriter,
+        Weak::EndsWhatWasUnused,
+    ];
+    weaknesses.into_iter().map(|it| {
+        let weakness = Some(it);
+        Run::weak(
+            &format!("latch, weakened: {it:?}"),
+            Latch { weakness, ..LATCH },
+        )
+    })
+}
+
+/// Threads that pin pages, of which there is one more than frames. Nothing is put, and nothing fails.
+const fn usual<const THREADS: usize, const FRAMES: usize>() -> Frames<THREADS, FRAMES> {
+    Frames {
+        pages: FRAMES as u8 + 1,
+        groups: 2,
+        keeps: true,
+        calls: &[Kind::Pin],
+        reads: GOOD,
+        writes: NONE,
+        logs: NONE,
+        closed: ANY,
+        weakness: None,
+    }
+}
+
+const ONE: Frames<3, 1> = usual();
+const TWO: Frames<3, 2> = usual();
+const ALL: &[Kind] = &[
+    Kind::Pin,
+    Kind::Try,
+    Kind::Ahead,
+    Kind::Discard,
+    Kind::Flush,
+];
+const FLUSHES: &[Kind] = &[Kind::Pin, Kind::Flush];
+const DISCARDS: &[Kind] = &[Kind::Pin, Kind::Discard];
+const FLUSHES_AND_DISCARDS: &[Kind] = &[Kind::Pin, Kind::Flush, Kind::Discard];
+
+#[rustfmt::skip]
+fn frames() -> Vec<Run> {
+    let two_threads = Frames::<2, 2> { calls: ALL, reads: ANY, writes: ANY, logs: ANY, ..usual() };
+    let aheads = Frames { calls: &[Kind::Pin, Kind::Ahead, Kind::Flush], writes: ANY, ..ONE };
+    let discards = Frames { calls: FLUSHES_AND_DISCARDS, writes: ANY, ..ONE };
+    let tries = Frames { calls: &[Kind::Pin, Kind::Try, Kind::Discard], reads: ANY, ..ONE };
+    let faults = Frames { calls: FLUSHES, writes: BAD, logs: ANY, ..ONE };
+    let closed = Frames { closed: GOOD, ..TWO };
+    let keeps_none = Frames { keeps: false, writes: BAD, ..TWO };
+    vec![
+        Run::of("frames: 3 threads, 2 frames, no pass stays, writes always fail", keeps_none),
+        Run::of("frames: 2 threads, 2 frames, all calls, any faults", two_threads),
+        Run::of("frames: 3 threads, 1 frame, flushes and reads ahead", aheads),
+        Run::of("frames: 3 threads, 1 frame, flushes and discards", discards),
+        Run::of("frames: 3 threads, 2 frames, a closed line", closed),
+        Run::of("frames: 3 threads, 1 frame, tries and discards", tries),
+        Run::of("frames: 3 threads, 1 frame, writes always fail", faults),
+    ]
+}
+
+fn weakened<const FRAMES: usize>(of: Frames<3, FRAMES>, weakness: frames::Weakness) -> Run {
+    let name = format!("frames, weakened: {weakness:?}");
+    let weakness = Some(weakness);
+    Run::weak(&name, Frames { weakness, ..of })
+}
+
+#[rustfmt::skip]
+fn weakened_frames() -> Vec<Run> {
+    use frames::Weakness as Weak;
+    let discards = Frames { calls: FLUSHES_AND_DISCARDS, writes: GOOD, ..ONE };
+    let faults = Frames { calls: FLUSHES, writes: BAD, ..ONE };
+    let closed = Frames { closed: GOOD, reads: ANY, ..ONE };
+    let two = Frames { closed: GOOD, writes: BAD, ..TWO };
+    vec![
+        weakened(ONE, Weak::ComparesBefore),
+        weakened(ONE, Weak::EndsWhatWasUnused),
+        weakened(ONE, Weak::LooksBeforeItWaits),
+        weakened(ONE, Weak::ReadWakesNobody),
+        weakened(ONE, Weak::SleepsInLine),
+        weakened(ONE, Weak::StaysAtEmptyGroup),
+        weakened(ONE, Weak::LetsGoSilently),
+        weakened(two, Weak::LeavesSilently),
+        weakened(faults, Weak::WakesOneOfTheFirst),
+        weakened(closed, Weak::AsksOutOfTurn),
+        weakened(discards, Weak::DiscardWakesNobody),
+    ]
+}
+
+#[rustfmt::skip]
+fn large_runs() -> Vec<Run> {
+    let five = Latch::<5> { stays: GOOD, forgotten: 0, weakness: None };
+    let any = Frames { writes: ANY, ..TWO };
+    let bad = Frames { writes: BAD, logs: BAD, groups: 3, ..TWO };
+    let all = Frames { calls: ALL, reads: ANY, writes: ANY, ..ONE };
+    let discards = Frames { calls: DISCARDS, ..TWO };
+    let four = Frames::<4, 1> { pages: 3, reads: ANY, ..usual() };
+    let groups = Frames::<4, 1> { groups: 3, ..usual() };
+    vec![
+        Run::of("latch: five threads, passes that stay", five),
+        Run::of("frames: 3 threads, 2 frames, writes may fail", any),
+        Run::of("frames: 3 threads, 2 frames, writes and the log always fail", bad),
+        Run::of("frames: 4 threads, 1 frame, 3 pages, reads may fail", four),
+        Run::of("frames: 4 threads, 1 frame, 3 groups", groups),
+        Run::of("frames: 3 threads, 1 frame, all calls", all),
+        Run::of("frames: 3 threads, 2 frames, discards", discards),
+    ]
 }

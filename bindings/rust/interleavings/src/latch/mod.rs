@@ -25,7 +25,7 @@ pub struct Latch<const THREADS: usize> {
     pub weakness: Option<Weakness>,
 }
 
-/// What is wrong with a protocol that is to be found out.
+/// What is wrong with a protocol, which is to be found.
 #[derive(Clone, Copy, PartialEq, Eq, Debug)]
 pub enum Weakness {
     /// Who took the seat for that of another page, and leaves, does not call those that wait.
@@ -45,18 +45,6 @@ pub enum Weakness {
     /// The pass ends since nobody used the page a moment ago.
     EndsWhatWasUnused,
 }
-
-/// All of them.
-pub const WEAKNESSES: [Weakness; 8] = [
-    Weakness::StrayCallsNobody,
-    Weakness::MissedCallsNobody,
-    Weakness::QueuesThoughFree,
-    Weakness::ForgetsSecond,
-    Weakness::WriterSleepsOn,
-    Weakness::WriterUnqueues,
-    Weakness::JoinsBesideWriter,
-    Weakness::EndsWhatWasUnused,
-];
 
 #[derive(Clone, Copy, PartialEq, Eq, Hash, PartialOrd, Ord, Debug)]
 enum Share {
