@@ -119,6 +119,7 @@ fn weakened_latches() -> impl Iterator<Item = Run> {
         Weak::WriterUnqueues,
         Weak::JoinsBesideWriter,
         Weak::EndsWhatWasUnused,
+        Weak::OpensBesideReaders,
     ];
     weaknesses.into_iter().map(|it| {
         let weakness = Some(it);

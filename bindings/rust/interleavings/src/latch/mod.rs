@@ -17,6 +17,10 @@ const SHARES: u64 = 2 * WRITER - 1;
 /// So many pins of a page, and there is room for one more.
 pub const MOST_PINS: u64 = WRITER / PIN / 2;
 
+/// So many writers get the latch while a reader waits, besides one that had it before.
+const MOST_PASSED: u8 = 1;
+
+#[derive(Clone, Copy)]
 pub struct Latch<const THREADS: usize> {
     /// What may be so of a pass that begins: it stays out when nobody uses the page.
     pub stays: &'static [bool],
@@ -44,6 +48,8 @@ pub enum Weakness {
     JoinsBesideWriter,
     /// The pass ends since nobody used the page a moment ago.
     EndsWhatWasUnused,
+    /// The word is opened for the writer that is next also where readers wait.
+    OpensBesideReaders,
 }
 
 #[derive(Clone, Copy, PartialEq, Eq, Hash, PartialOrd, Ord, Debug)]
@@ -83,7 +89,7 @@ enum At {
     /// It has that mutex, and found the latch taken.
     Taken(Wish),
     /// It sleeps in the queue, or was woken there.
-    Asleep(Wish, Place, bool),
+    Asleep(Sleeper),
     /// It has the latch, and still the pin instead of which it has it.
     LetIn(Wish),
     Holding(Wish),
@@ -93,6 +99,15 @@ enum At {
     Notifying(Place, Then),
     /// It comes to the part's lock, to end the pass.
     Ending(Then),
+}
+
+#[derive(Clone, Copy, PartialEq, Eq, Hash, PartialOrd, Ord, Debug)]
+struct Sleeper {
+    wish: Wish,
+    place: Place,
+    is_woken: bool,
+    /// How often a writer has got the latch since it came to wait to read.
+    passed: u8,
 }
 
 /// What a thread does next.
@@ -149,7 +164,7 @@ impl At {
     /// The latch that it has, also where it does not know that so far.
     fn latch(self, queue: &Queue) -> Option<Share> {
         match self {
-            At::Asleep(wish, place, _) => queue.has_let_in(place).then_some(wish.latch),
+            At::Asleep(it) => queue.has_let_in(it.place).then_some(it.wish.latch),
             At::LetIn(wish) | At::Holding(wish) => Some(wish.latch),
             At::Stray(Share::Writer, _) => Some(Share::Writer),
             _ => None,
@@ -183,9 +198,14 @@ impl At {
         self.has_pin() && !matches!(self, At::Stray(..)) || matches!(self, At::Holding(_))
     }
 
+    /// Whether it waits to read, and longer than for the writer that it found and one more.
+    fn is_passed_over(self) -> bool {
+        matches!(self, At::Asleep(it) if it.passed > MOST_PASSED)
+    }
+
     fn place(&mut self) -> Option<&mut Place> {
         match self {
-            At::Asleep(_, place, _) | At::Notifying(place, _) => Some(place),
+            At::Asleep(Sleeper { place, .. }) | At::Notifying(place, _) => Some(place),
             _ => None,
         }
     }
@@ -227,6 +247,9 @@ impl<const THREADS: usize> Model for Latch<THREADS> {
         let (writers, readers): (Vec<_>, Vec<_>) = latches.partition(|it| *it == Share::Writer);
         if writers.len() > 1 || (writers.len() == 1 && !readers.is_empty()) {
             return Some("two threads have the latch, of which one is to be alone".into());
+        }
+        if state.threads.iter().any(|at| at.is_passed_over()) {
+            return Some("two writers got the latch while a reader waited for it".into());
         }
         let has_guard = state.threads.iter().any(|at| at.is_guard());
         if has_guard && !Word(state.word).is_out() {

@@ -1,5 +1,5 @@
 //! What a thread does, step by step.
-use super::{At, Latch, Place, Share, State, Then, Weakness, Wish};
+use super::{At, Latch, Place, Share, Sleeper, State, Then, Weakness, Wish};
 use crate::explore::Step;
 use crate::word::{JOIN, PIN, READER, Word};
 use std::mem;
@@ -39,7 +39,7 @@ impl<const THREADS: usize> Latch<THREADS> {
             At::Queueing(wish) if !state.is_locked => steps.look(wish),
             At::Looking(wish) => steps.look(wish),
             At::Taken(wish) => steps.queue(wish),
-            At::Asleep(wish, place, is_woken) => steps.sleep(wish, place, is_woken),
+            At::Asleep(sleeper) => steps.sleep(sleeper),
             At::LetIn(wish) => steps.add("gives its pin back", At::Holding(wish), |state| {
                 state.word -= PIN;
             }),
@@ -75,6 +75,20 @@ impl<const THREADS: usize> Latch<THREADS> {
             comes: state.is_closing,
             next,
         });
+    }
+}
+
+impl<const THREADS: usize> State<THREADS> {
+    /// A writer has got the latch: of the readers that wait each notes that, as often as is of matter.
+    fn note_writer(&mut self) {
+        for at in &mut self.threads {
+            if let At::Asleep(it) = at
+                && it.wish.latch == Share::Reader
+                && !self.queue.has_let_in(it.place)
+            {
+                it.passed = (it.passed + 1).min(super::MOST_PASSED + 1);
+            }
+        }
     }
 }
 
@@ -126,12 +140,23 @@ impl<const THREADS: usize> Steps<'_, THREADS> {
         let mut next = *self.state;
         next.threads[self.thread] = at;
         change(&mut next);
+        if Word(next.word).is_written() && !self.word().is_written() {
+            next.note_writer();
+        }
         self.steps.push(Step {
             thread: self.thread,
             name,
             comes: true,
             next,
         });
+    }
+
+    /// Adds a step of this thread alone that may never come.
+    fn add_by_chance(&mut self, name: &'static str, at: At) {
+        self.add(name, at, |_| {});
+        if let Some(step) = self.steps.last_mut() {
+            step.comes = false;
+        }
     }
 
     /// A call begins, of any kind.
@@ -248,12 +273,8 @@ impl<const THREADS: usize> Steps<'_, THREADS> {
     /// A pin is dropped, or a latch is asked for beside it.
     fn use_pin(&mut self) {
         self.leave("lets its pin go", Share::Pin, Then::End);
-        let first = self.steps.len();
         for wish in Wish::all(true) {
-            self.add("asks for a latch", At::Trying(wish), |_| {});
-        }
-        for step in &mut self.steps[first..] {
-            step.comes = false;
+            self.add_by_chance("asks for a latch", At::Trying(wish));
         }
     }
 
@@ -300,7 +321,13 @@ impl<const THREADS: usize> Steps<'_, THREADS> {
                     Share::Writer => queue.add_writer(),
                     _ => queue.add_reader(before.is_written()),
                 };
-                self.add("queues", At::Asleep(wish, place, false), |state| {
+                let sleeper = Sleeper {
+                    wish,
+                    place,
+                    is_woken: false,
+                    passed: 0,
+                };
+                self.add("queues", At::Asleep(sleeper), |state| {
                     (state.word, state.queue, state.is_locked) = (word, queue, false);
                 });
             }
@@ -312,20 +339,21 @@ impl<const THREADS: usize> Steps<'_, THREADS> {
     }
 
     /// `Queues::wait_to_write` and `wait_to_read`, once woken.
-    fn sleep(&mut self, wish: Wish, place: Place, is_woken: bool) {
-        if !is_woken {
-            self.add("wakes for no reason", At::Asleep(wish, place, true), |_| {});
-            if let Some(step) = self.steps.last_mut() {
-                step.comes = false;
-            }
-            return;
+    fn sleep(&mut self, sleeper: Sleeper) {
+        if !sleeper.is_woken {
+            let is_woken = true;
+            let at = At::Asleep(Sleeper {
+                is_woken,
+                ..sleeper
+            });
+            return self.add_by_chance("wakes for no reason", at);
         }
         if self.state.is_locked {
             return;
         }
         let (mut queue, mut word) = (self.state.queue, self.state.word);
-        let mut is_in = queue.has_let_in(place);
-        if let Place::Writer(ticket) = place
+        let mut is_in = queue.has_let_in(sleeper.place);
+        if let Place::Writer(ticket) = sleeper.place
             && !is_in
         {
             let looks = queue.let_in == ticket && mem::take(&mut queue.is_awake);
@@ -334,11 +362,17 @@ impl<const THREADS: usize> Steps<'_, THREADS> {
                 word = Word(word).with_readers(0, true).unwrap_or(word);
             }
         }
-        let at = match is_in {
-            true => wish.let_in(),
-            false => At::Asleep(wish, place, false),
+        let is_woken = false;
+        let (name, at) = match is_in {
+            true => ("is let in", sleeper.wish.let_in()),
+            false => (
+                "sleeps again",
+                At::Asleep(Sleeper {
+                    is_woken,
+                    ..sleeper
+                }),
+            ),
         };
-        let name = if is_in { "is let in" } else { "sleeps again" };
         self.add(name, at, |state| (state.word, state.queue) = (word, queue));
     }
 
@@ -352,7 +386,7 @@ impl<const THREADS: usize> Steps<'_, THREADS> {
             self.hand_to_readers(then);
         } else {
             self.hand_to_writer(then);
-            if queue.second == 0 {
+            if queue.second == 0 || self.is(Weakness::OpensBesideReaders) {
                 self.wake_writer(then);
             }
         }
@@ -399,8 +433,8 @@ impl<const THREADS: usize> Steps<'_, THREADS> {
     fn notify(&mut self, place: Place, then: Then) {
         self.add("notifies", then.at(), |state| {
             for at in &mut state.threads {
-                if let At::Asleep(_, other, is_woken) = at {
-                    *is_woken |= *other == place;
+                if let At::Asleep(sleeper) = at {
+                    sleeper.is_woken |= sleeper.place == place;
                 }
             }
         });
