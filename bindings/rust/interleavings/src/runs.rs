@@ -5,7 +5,7 @@ use crate::latch::{self, Latch};
 use std::time::Instant;
 
 /// More states than this are too many for a run.
-const MOST: usize = 60_000_000;
+const MOST: usize = 40_000_000;
 
 #[derive(Clone, Copy, PartialEq, Eq)]
 pub enum Size {
@@ -137,6 +137,7 @@ const fn usual<const THREADS: usize, const FRAMES: usize>() -> Frames<THREADS, F
         groups: 2,
         keeps: true,
         calls: &[Kind::Pin],
+        strays: true,
         reads: GOOD,
         writes: NONE,
         logs: NONE,
@@ -166,12 +167,14 @@ fn frames() -> Vec<Run> {
     let tries = Frames { calls: &[Kind::Pin, Kind::Try, Kind::Discard], reads: ANY, ..ONE };
     let faults = Frames { calls: FLUSHES, writes: BAD, logs: ANY, ..ONE };
     let closed = Frames { closed: GOOD, ..TWO };
+    let four = Frames::<4, 2> { strays: false, closed: GOOD, ..usual() };
     let keeps_none = Frames { keeps: false, writes: BAD, ..TWO };
     vec![
         Run::of("frames: 3 threads, 2 frames, no pass stays, writes always fail", keeps_none),
         Run::of("frames: 2 threads, 2 frames, all calls, any faults", two_threads),
         Run::of("frames: 3 threads, 1 frame, flushes and reads ahead", aheads),
         Run::of("frames: 3 threads, 1 frame, flushes and discards", discards),
+        Run::of("frames: 4 threads, 2 frames, a closed line, no strays", four),
         Run::of("frames: 3 threads, 2 frames, a closed line", closed),
         Run::of("frames: 3 threads, 1 frame, tries and discards", tries),
         Run::of("frames: 3 threads, 1 frame, writes always fail", faults),
@@ -210,17 +213,21 @@ fn weakened_frames() -> Vec<Run> {
 fn large_runs() -> Vec<Run> {
     let five = Latch::<5> { stays: GOOD, forgotten: 0, weakness: None };
     let any = Frames { writes: ANY, ..TWO };
-    let bad = Frames { writes: BAD, logs: BAD, groups: 3, ..TWO };
+    let bad = Frames { writes: BAD, logs: BAD, groups: 3, strays: false, ..TWO };
     let all = Frames { calls: ALL, reads: ANY, writes: ANY, ..ONE };
     let discards = Frames { calls: DISCARDS, ..TWO };
     let four = Frames::<4, 1> { pages: 3, reads: ANY, ..usual() };
     let groups = Frames::<4, 1> { groups: 3, ..usual() };
+    let two = Frames::<4, 2> { groups: 3, strays: false, ..usual() };
+    let three = Frames::<4, 3> { closed: GOOD, strays: false, ..usual() };
     vec![
         Run::of("latch: five threads, passes that stay", five),
         Run::of("frames: 3 threads, 2 frames, writes may fail", any),
-        Run::of("frames: 3 threads, 2 frames, writes and the log always fail", bad),
+        Run::of("frames: 3 threads, 2 frames, writes and the log always fail, no strays", bad),
         Run::of("frames: 4 threads, 1 frame, 3 pages, reads may fail", four),
         Run::of("frames: 4 threads, 1 frame, 3 groups", groups),
+        Run::of("frames: 4 threads, 2 frames, 3 groups, no strays", two),
+        Run::of("frames: 4 threads, 3 frames, a closed line, no strays", three),
         Run::of("frames: 3 threads, 1 frame, all calls", all),
         Run::of("frames: 3 threads, 2 frames, discards", discards),
     ]

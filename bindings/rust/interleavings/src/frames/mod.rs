@@ -25,6 +25,8 @@ pub struct Frames<const THREADS: usize, const FRAMES: usize> {
     /// Whether passes of pages that nobody uses stay out.
     pub keeps: bool,
     pub calls: &'static [Kind],
+    /// Whether a seat may be another page's by the time that it is joined.
+    pub strays: bool,
     /// How device work may end.
     pub reads: &'static [bool],
     pub writes: &'static [bool],

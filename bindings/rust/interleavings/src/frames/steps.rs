@@ -147,12 +147,16 @@ impl<const THREADS: usize, const FRAMES: usize> Steps<'_, THREADS, FRAMES> {
         }
     }
 
-    /// `Part::join`, by a seat that may be any by now.
+    /// `Part::join`, by a seat that may be any by now, or by its own.
     fn join(&mut self, me: Thread) {
         for number in 0..FRAMES as u8 {
             let mut next = *self.state;
             let frame = &mut next.frames[number as usize];
             let is_its = frame.page == me.page;
+            let is_stray = !is_its || !frame.is_out();
+            if is_stray && !self.model.strays {
+                continue;
+            }
             if self.is(Weakness::ComparesBefore) && is_its && frame.is_out() {
                 let me = me.at_frame(At::Compared, number);
                 self.push("finds its page", false, me, next);
