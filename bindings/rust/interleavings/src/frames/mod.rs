@@ -66,9 +66,12 @@ pub enum Weakness {
 
 #[derive(Clone, Copy, PartialEq, Eq, Hash, PartialOrd, Ord, Debug, Default)]
 pub enum Kind {
+    /// `SharedPager::pin`.
     #[default]
     Pin,
+    /// `try_pin`.
     Try,
+    /// A page that is read before a thread asks for it.
     Ahead,
     Discard,
     Flush,
@@ -165,7 +168,7 @@ struct Thread {
     had_turn: bool,
     /// A victim could not be written out in this call.
     has_fault: bool,
-    /// The frames that it set aside, as bits.
+    /// The frames that it set aside, and those that it has looked at, as bits.
     aside: u8,
     seen: u8,
     /// Where it has its page.
@@ -174,6 +177,7 @@ struct Thread {
     loads: u8,
     /// Where it works, or has or had a pin.
     frame: u8,
+    /// Its place in line, or that where it is to wake who waits.
     ticket: u8,
     /// It is to wake all that wait there.
     wakes_all: bool,

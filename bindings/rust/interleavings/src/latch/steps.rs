@@ -1,4 +1,5 @@
 //! What a thread does, step by step.
+use super::queue::Queue;
 use super::{At, Latch, Place, Share, Sleeper, State, Then, Weakness, Wish};
 use crate::explore::Step;
 use crate::word::{JOIN, PIN, READER, Word};
@@ -82,11 +83,11 @@ impl<const THREADS: usize> State<THREADS> {
     /// A writer has got the latch: of the readers that wait each notes that, as often as is of matter.
     fn note_writer(&mut self) {
         for at in &mut self.threads {
-            if let At::Asleep(it) = at
-                && it.wish.latch == Share::Reader
-                && !self.queue.has_let_in(it.place)
-            {
-                it.passed = (it.passed + 1).min(super::MOST_PASSED + 1);
+            if let At::Asleep(it) = at {
+                let has_latch = self.queue.has_let_in(it.place);
+                if it.wish.latch == Share::Reader && !has_latch {
+                    it.passed = (it.passed + 1).min(super::MOST_PASSED + 1);
+                }
             }
         }
     }
@@ -352,16 +353,11 @@ impl<const THREADS: usize> Steps<'_, THREADS> {
             return;
         }
         let (mut queue, mut word) = (self.state.queue, self.state.word);
-        let mut is_in = queue.has_let_in(sleeper.place);
-        if let Place::Writer(ticket) = sleeper.place
-            && !is_in
-        {
-            let looks = queue.let_in == ticket && mem::take(&mut queue.is_awake);
-            is_in = looks && queue.first == 0 && queue.let_writer_in(&mut word);
-            if looks && !is_in && self.is(Weakness::WriterUnqueues) {
-                word = Word(word).with_readers(0, true).unwrap_or(word);
-            }
-        }
+        let is_in = match sleeper.place {
+            place if queue.has_let_in(place) => true,
+            Place::Writer(ticket) => self.looks(ticket, &mut queue, &mut word),
+            Place::Readers(_) => false,
+        };
         let is_woken = false;
         let (name, at) = match is_in {
             true => ("is let in", sleeper.wish.let_in()),
@@ -374,6 +370,17 @@ impl<const THREADS: usize> Steps<'_, THREADS> {
             ),
         };
         self.add(name, at, |state| (state.word, state.queue) = (word, queue));
+    }
+
+    /// Whether a writer that was woken takes the latch. Only the first is awake. Where readers are before
+    /// it, the latch is handed over.
+    fn looks(&self, ticket: u8, queue: &mut Queue, word: &mut u64) -> bool {
+        let looks = queue.let_in == ticket && mem::take(&mut queue.is_awake);
+        let is_in = looks && queue.first == 0 && queue.let_writer_in(word);
+        if looks && !is_in && self.is(Weakness::WriterUnqueues) {
+            *word = Word(*word).with_readers(0, true).unwrap_or(*word);
+        }
+        is_in
     }
 
     /// `Queues::hand_over`, but for the notification at its end. Whether a writer has been the first for long
