@@ -85,6 +85,7 @@ const ANY: &[bool] = &[true, false];
 const NONE: &[bool] = &[];
 
 const LATCH: Latch<3> = Latch {
+    has_all_calls: true,
     stays: ANY,
     forgotten: 0,
     weakness: None,
@@ -92,6 +93,7 @@ const LATCH: Latch<3> = Latch {
 
 fn latches() -> Vec<Run> {
     let four = Latch::<4> {
+        has_all_calls: true,
         stays: ANY,
         forgotten: 0,
         weakness: None,
@@ -211,7 +213,8 @@ fn weakened_frames() -> Vec<Run> {
 
 #[rustfmt::skip]
 fn large_runs() -> Vec<Run> {
-    let five = Latch::<5> { stays: GOOD, forgotten: 0, weakness: None };
+    let five = Latch::<5> { has_all_calls: false, stays: ANY, forgotten: 0, weakness: None };
+    let six = Latch::<6> { has_all_calls: false, stays: GOOD, forgotten: 0, weakness: None };
     let any = Frames { writes: ANY, ..TWO };
     let bad = Frames { writes: BAD, logs: BAD, groups: 3, strays: false, ..TWO };
     let all = Frames { calls: ALL, reads: ANY, writes: ANY, ..ONE };
@@ -221,7 +224,8 @@ fn large_runs() -> Vec<Run> {
     let two = Frames::<4, 2> { groups: 3, strays: false, ..usual() };
     let three = Frames::<4, 3> { closed: GOOD, strays: false, ..usual() };
     vec![
-        Run::of("latch: five threads, passes that stay", five),
+        Run::of("latch: six threads, no tries, none beside a pin, passes that stay", six),
+        Run::of("latch: five threads, no tries, none beside a pin", five),
         Run::of("frames: 3 threads, 2 frames, writes may fail", any),
         Run::of("frames: 3 threads, 2 frames, writes and the log always fail, no strays", bad),
         Run::of("frames: 4 threads, 1 frame, 3 pages, reads may fail", four),

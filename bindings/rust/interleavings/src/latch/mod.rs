@@ -22,6 +22,8 @@ const MOST_PASSED: u8 = 1;
 
 #[derive(Clone, Copy)]
 pub struct Latch<const THREADS: usize> {
+    /// Whether threads try latches too, and take them beside a pin.
+    pub has_all_calls: bool,
     /// What may be so of a pass that begins: it stays out when nobody uses the page.
     pub stays: &'static [bool],
     /// So many pins of the page were forgotten.

@@ -114,16 +114,17 @@ impl Wish {
         }
     }
 
-    /// All wishes.
-    fn all(beside: bool) -> impl Iterator<Item = Wish> {
-        let both = [Share::Reader, Share::Writer].into_iter();
-        both.flat_map(move |latch| {
+    /// All wishes, or those that wait.
+    fn all(beside: bool, has_tries: bool) -> impl Iterator<Item = Wish> {
+        let latches = [Share::Reader, Share::Writer].into_iter();
+        let wishes = latches.flat_map(move |latch| {
             [true, false].map(|waits| Wish {
                 latch,
                 waits,
                 beside,
             })
-        })
+        });
+        wishes.filter(move |it| it.waits || has_tries)
     }
 }
 
@@ -163,7 +164,7 @@ impl<const THREADS: usize> Steps<'_, THREADS> {
     /// A call begins, of any kind.
     fn call(&mut self) {
         let first = self.steps.len();
-        for wish in Wish::all(false) {
+        for wish in Wish::all(false, self.model.has_all_calls) {
             self.add("finds no pass", At::Fixing(Some(wish)), |_| {});
             match wish.latch {
                 Share::Reader => self.join_read(wish),
@@ -274,7 +275,10 @@ impl<const THREADS: usize> Steps<'_, THREADS> {
     /// A pin is dropped, or a latch is asked for beside it.
     fn use_pin(&mut self) {
         self.leave("lets its pin go", Share::Pin, Then::End);
-        for wish in Wish::all(true) {
+        if !self.model.has_all_calls {
+            return;
+        }
+        for wish in Wish::all(true, true) {
             self.add_by_chance("asks for a latch", At::Trying(wish));
         }
     }
