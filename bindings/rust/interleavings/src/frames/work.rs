@@ -157,16 +157,20 @@ impl<const THREADS: usize, const FRAMES: usize> Steps<'_, THREADS, FRAMES> {
         self.add("discards", self.to_wake(Thread::default()), next);
     }
 
-    /// The end of `Part::wait_to_discard`.
+    /// `Part::wait_to_discard`, once the work has ended: it waits for the page a moment more, and flushes
+    /// stand back for that time too.
     pub(super) fn discard_after_work(&mut self) {
-        let (mut next, me) = (*self.state, self.me);
-        if me.frame != NONE {
-            next.frames[me.frame as usize].awaited.end(me.page);
-            if !self.is(Weakness::DiscardWakesNobody) {
-                next.wake_workers(me.page);
-            }
+        let mut next = *self.state;
+        if self.me.frame == NONE {
+            return self.discard(next);
         }
-        self.discard(next);
+        next.waiting += 1;
+        next.is_locked = true;
+        self.add(
+            "is to wait for the page",
+            self.me.to(At::LookingToDiscard),
+            next,
+        );
     }
 
     pub(super) fn look_to_discard(&mut self) {
@@ -176,8 +180,7 @@ impl<const THREADS: usize, const FRAMES: usize> Steps<'_, THREADS, FRAMES> {
             !frame.is_out() || frame.give_back()
         });
         if has_come {
-            next.waiting -= 1;
-            return self.discard(next);
+            return self.stop_waiting(next);
         }
         next.is_locked = false;
         let me = self.me.to(At::AsleepToDiscard);
@@ -186,8 +189,23 @@ impl<const THREADS: usize, const FRAMES: usize> Steps<'_, THREADS, FRAMES> {
 
     pub(super) fn wake_to_discard(&mut self) {
         let mut next = *self.state;
+        if self.me.frame == NONE {
+            next.waiting -= 1;
+            self.push("is refused", false, Thread::default(), next);
+        }
+        self.stop_waiting(*self.state);
+    }
+
+    /// It waits for the page no more, nor do flushes stand back for it, and it tries again.
+    fn stop_waiting(&mut self, mut next: Next<THREADS, FRAMES>) {
         next.waiting -= 1;
-        self.push("is refused", false, Thread::default(), next);
+        if self.me.frame != NONE {
+            let awaited = &mut next.frames[self.me.frame as usize].awaited;
+            awaited.end(self.me.page);
+            if !self.is(Weakness::DiscardWakesNobody) {
+                next.wake_workers(self.me.page);
+            }
+        }
         self.discard(next);
     }
 }
