@@ -1,9 +1,12 @@
-//! Tries every interleaving of the protocols by which the threads of a shared pager take latches and frames.
+//! Tries every interleaving of the protocols by which the threads of a shared pager take latches and frames, and
+//! share syncs.
 //! README.md says what is tried, and which lines of the pager each step stands for.
 mod explore;
 mod frames;
 mod latch;
+mod numbers;
 mod runs;
+mod syncs;
 // What the pager runs. Some of its functions are of no use here.
 #[allow(dead_code)]
 #[path = "../../src/shared/word.rs"]

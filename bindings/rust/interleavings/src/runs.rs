@@ -2,6 +2,7 @@
 use crate::explore::{Explored, Model, explore};
 use crate::frames::{self, Frames, Kind};
 use crate::latch::{self, Latch};
+use crate::syncs::{self, Syncs};
 use std::time::Instant;
 
 /// More states than this are too many for a run.
@@ -73,6 +74,7 @@ pub fn all(size: Size) -> Vec<Run> {
     }
     runs.extend(latches());
     runs.extend(frames());
+    runs.extend(syncs());
     runs.extend(weakened_latches());
     runs.extend(weakened_frames());
     runs
@@ -130,6 +132,24 @@ fn weakened_latches() -> impl Iterator<Item = Run> {
             Latch { weakness, ..LATCH },
         )
     })
+}
+
+fn syncs() -> Vec<Run> {
+    use syncs::Weakness as Weak;
+    let five = Syncs::<5> { weakness: None };
+    let mut runs = vec![Run::of("syncs: five threads", five)];
+    let weaknesses = [
+        Weak::TakesTheRunning,
+        Weak::WakesOne,
+        Weak::WakesTooSoon,
+        Weak::KeepsItsTurn,
+    ];
+    runs.extend(weaknesses.map(|it| {
+        let weakness = Some(it);
+        let name = format!("syncs, weakened: {it:?}");
+        Run::weak(&name, Syncs::<4> { weakness })
+    }));
+    runs
 }
 
 /// Threads that pin pages, of which there is one more than frames. Nothing is put, and nothing fails.

@@ -1,5 +1,6 @@
 //! The queue for the latch of one page, as `Queue` of `latch.rs`. It changes under the mutex of the queues.
 use super::{At, Place};
+use crate::numbers::Numbers;
 use crate::word::Word;
 
 /// The fields have the names that they have there.
@@ -64,21 +65,6 @@ impl Queue {
         (self.first, self.second) = (0, 0);
         self.turns += 1;
         Some(Place::Readers(self.turns - 1))
-    }
-}
-
-/// Numbers that are compared with each other, and nothing else.
-#[derive(Default)]
-struct Numbers(u64);
-
-impl Numbers {
-    fn add(&mut self, number: u8) {
-        self.0 |= 1 << number;
-    }
-
-    /// How many of them are less.
-    fn rank(&self, number: u8) -> u8 {
-        (self.0 & ((1 << number) - 1)).count_ones() as u8
     }
 }
 
