@@ -174,6 +174,7 @@ const ALL: &[Kind] = &[
     Kind::Pin,
     Kind::Try,
     Kind::Ahead,
+    Kind::New,
     Kind::Discard,
     Kind::Flush,
 ];
@@ -184,7 +185,7 @@ const FLUSHES_AND_DISCARDS: &[Kind] = &[Kind::Pin, Kind::Flush, Kind::Discard];
 #[rustfmt::skip]
 fn frames() -> Vec<Run> {
     let two_threads = Frames::<2, 2> { calls: ALL, reads: ANY, writes: ANY, logs: ANY, ..usual() };
-    let aheads = Frames { calls: &[Kind::Pin, Kind::Ahead, Kind::Flush], writes: ANY, ..ONE };
+    let aheads = Frames { calls: &[Kind::New, Kind::Ahead, Kind::Flush], writes: ANY, ..ONE };
     let discards = Frames { calls: FLUSHES_AND_DISCARDS, writes: ANY, ..ONE };
     let tries = Frames { calls: &[Kind::Pin, Kind::Try, Kind::Discard], reads: ANY, ..ONE };
     let faults = Frames { calls: FLUSHES, writes: BAD, logs: ANY, ..ONE };
@@ -194,7 +195,7 @@ fn frames() -> Vec<Run> {
     vec![
         Run::of("frames: 3 threads, 2 frames, no pass stays, writes always fail", keeps_none),
         Run::of("frames: 2 threads, 2 frames, all calls, any faults", two_threads),
-        Run::of("frames: 3 threads, 1 frame, flushes and reads ahead", aheads),
+        Run::of("frames: 3 threads, 1 frame, new pages, flushes, reads ahead", aheads),
         Run::of("frames: 3 threads, 1 frame, flushes and discards", discards),
         Run::of("frames: 4 threads, 2 frames, a closed line, no strays", four),
         Run::of("frames: 3 threads, 2 frames, a closed line", closed),

@@ -73,6 +73,8 @@ pub enum Kind {
     Try,
     /// A page that is read before a thread asks for it.
     Ahead,
+    /// `new_page`: a page that was read ahead, and not used since, leaves its frame for it.
+    New,
     Discard,
     Flush,
 }
@@ -126,6 +128,8 @@ enum At {
     /// It sleeps until the work on its page has ended.
     Working,
     Reading,
+    /// It has the lock, and the pin of a page that it has read ahead.
+    Keeping,
     Writing,
     Logging,
     /// It comes to the lock, to set a page aside no longer. With the last one it goes on.

@@ -40,6 +40,7 @@ impl<const THREADS: usize, const FRAMES: usize> Frames<THREADS, FRAMES> {
             // These have the lock.
             At::Scanning => steps.scan(),
             At::Joining => steps.wait_in_line(),
+            At::Keeping => steps.keep_ahead(),
             At::LookingToDiscard => steps.look_to_discard(),
             At::Asleep | At::Working | At::AsleepToDiscard if !me.is_woken => {
                 steps.wake_for_no_reason();
@@ -134,13 +135,13 @@ impl<const THREADS: usize, const FRAMES: usize> Steps<'_, THREADS, FRAMES> {
         for kind in self.model.calls {
             for page in 0..self.model.pages {
                 let at = match kind {
-                    Kind::Pin | Kind::Try | Kind::Ahead => At::Coming,
+                    Kind::Pin | Kind::Try | Kind::Ahead | Kind::New => At::Coming,
                     Kind::Discard => At::Discarding,
                     Kind::Flush => At::ToFlush,
                 };
                 let me = Thread::of(*kind, page, at);
                 self.push("begins", false, me, *self.state);
-                if matches!(kind, Kind::Pin | Kind::Try) {
+                if !matches!(kind, Kind::Ahead | Kind::Discard | Kind::Flush) {
                     self.join(me);
                 }
             }

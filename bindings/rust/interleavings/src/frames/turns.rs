@@ -6,7 +6,23 @@ use super::{At, Kind, NONE, Thread, Weakness, Work};
 impl<const THREADS: usize, const FRAMES: usize> Steps<'_, THREADS, FRAMES> {
     /// `SharedPager::fix`, or `Part::ask_in_turn` of a later round.
     pub(super) fn come(&mut self, me: Thread) {
-        let state = *self.state;
+        self.come_to(*self.state, me);
+        let dropped = self
+            .state
+            .frame_of(me.page)
+            .filter(|_| me.kind == Kind::New);
+        if let Some(number) = dropped {
+            let mut next = *self.state;
+            let frame = &mut next.frames[number as usize];
+            // `Part::drop_ahead`, of a page that was read ahead.
+            if frame.is_kept() && frame.work == Work::Nothing && frame.give_back() {
+                frame.free();
+                self.come_to(next, me);
+            }
+        }
+    }
+
+    fn come_to(&mut self, state: Next<THREADS, FRAMES>, me: Thread) {
         if me.had_turn || state.line.is_empty() || !state.needs_frame(me.page) {
             return self.ask(state, me, true);
         }
@@ -16,8 +32,8 @@ impl<const THREADS: usize, const FRAMES: usize> Steps<'_, THREADS, FRAMES> {
         for is_closed in self.model.closed {
             match (is_closed, me.kind) {
                 (false, _) => self.ask(state, me, true),
-                (true, Kind::Pin) => self.join_line(state, me, false),
-                (true, _) => self.refuse(state, me, true),
+                (true, Kind::Try) => self.refuse(state, me, true),
+                (true, _) => self.join_line(state, me, false),
             }
         }
     }
@@ -26,6 +42,9 @@ impl<const THREADS: usize, const FRAMES: usize> Steps<'_, THREADS, FRAMES> {
     pub(super) fn ask(&mut self, state: Next<THREADS, FRAMES>, me: Thread, is_first: bool) {
         for asked in self.model.asked(&state, me.page, is_first) {
             match asked {
+                Asked::NoVictim | Asked::NeedLog(_) if me.kind == Kind::Ahead => {
+                    self.refuse(state, me, true);
+                }
                 Asked::NoVictim if is_first => self.look(state, Thread { seen: 0, ..me }),
                 Asked::NoVictim => self.find_no_victim(state, me),
                 other => self.go_on(state, me, other),
@@ -133,7 +152,7 @@ impl<const THREADS: usize, const FRAMES: usize> Steps<'_, THREADS, FRAMES> {
 
     /// `Part::find_frame`, where the pool has no victim: also in line.
     fn find_no_victim(&mut self, state: Next<THREADS, FRAMES>, me: Thread) {
-        if me.kind != Kind::Pin {
+        if matches!(me.kind, Kind::Try | Kind::Ahead) {
             return self.refuse(state, me, true);
         }
         if me.ticket != NONE {
@@ -220,7 +239,13 @@ impl<const THREADS: usize, const FRAMES: usize> Steps<'_, THREADS, FRAMES> {
             Kind::Flush => self.flush(me),
             _ if me.ticket != NONE => self.in_line(*self.state, me),
             _ if self.is(Weakness::AsksOutOfTurn) => self.ask(*self.state, me, true),
-            _ => self.come(me),
+            _ => {
+                // `Part::wait_for_read` tells of a read that failed meanwhile.
+                if self.state.needs_frame(me.page) {
+                    self.refuse(*self.state, me, false);
+                }
+                self.come(me);
+            }
         }
     }
 }

@@ -1,6 +1,7 @@
 //! The ends of device work, flushes, and discards.
 use super::steps::{Next, Steps};
 use super::{At, Kind, NONE, Then, Thread, Weakness, Work};
+use crate::word::{PIN, Word};
 
 impl<const THREADS: usize, const FRAMES: usize> Steps<'_, THREADS, FRAMES> {
     pub(super) fn end_read(&mut self) {
@@ -15,7 +16,12 @@ impl<const THREADS: usize, const FRAMES: usize> Steps<'_, THREADS, FRAMES> {
                 if !self.is(Weakness::ReadWakesNobody) {
                     next.wake_for_page(me.page);
                 }
-                self.add("ends its read", me.returned(number, NONE), next);
+                let mut me = me.returned(number, NONE);
+                if me.kind == Kind::Ahead {
+                    next.is_locked = true;
+                    me = me.to(At::Keeping);
+                }
+                self.add("ends its read", me, next);
             } else {
                 frame.free();
                 next.wake_workers(me.page);
@@ -29,6 +35,16 @@ impl<const THREADS: usize, const FRAMES: usize> Steps<'_, THREADS, FRAMES> {
         }
     }
 
+    /// `Part::keep_ahead`: the pin of a page that was read ahead goes under the lock. Others may have joined.
+    pub(super) fn keep_ahead(&mut self) {
+        let mut next = *self.state;
+        let frame = &mut next.frames[self.me.had as usize];
+        frame.word = Word(frame.word).without(PIN).0;
+        frame.end_use(self.model.keeps);
+        next.is_locked = false;
+        self.add("keeps the page", self.to_wake(Thread::default()), next);
+    }
+
     /// `SharedPager::write_victim`: the frame of a page that was written out is not given away meanwhile,
     /// unless the lock has to be opened for a buffer.
     pub(super) fn end_write(&mut self) {
@@ -39,7 +55,9 @@ impl<const THREADS: usize, const FRAMES: usize> Steps<'_, THREADS, FRAMES> {
             frame.work = Work::Nothing;
             frame.is_unsaved |= !is_good;
             let victim = frame.page;
-            if !is_good {
+            // A read ahead is given up then.
+            let is_ahead = self.me.kind == Kind::Ahead;
+            if !is_good && !is_ahead {
                 self.set_aside(next);
             }
             next.wake_workers(victim);
@@ -48,7 +66,7 @@ impl<const THREADS: usize, const FRAMES: usize> Steps<'_, THREADS, FRAMES> {
                     then: Then::Return,
                     ..self.to_wake(ended)
                 };
-                self.push("panics as it writes", false, me, next);
+                self.push("panics as it writes, or gives up", is_ahead, me, next);
                 continue;
             }
             for next in self.after_waking_first(next) {
