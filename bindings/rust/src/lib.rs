@@ -105,6 +105,7 @@
 
 mod config;
 mod error;
+mod files;
 mod image;
 mod lent;
 mod page;
@@ -117,6 +118,7 @@ mod sys;
 
 pub use config::Config;
 pub use error::{Error, Refused, Result};
+pub use files::{Device, FileOptions, FilePages, Layout, Log, NoLog, OpenError, WithLog};
 pub use lent::PageBytes;
 pub use page::{PageGuard, Pass, ReadTicket, WriteTicket};
 pub use pager::{PageIo, Pager, PagerError, ReadFault};

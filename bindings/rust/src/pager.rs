@@ -142,16 +142,39 @@ page_io_of!(&T Box<T> Arc<T>);
 
 /// Why a page could not be read.
 #[derive(Debug)]
+#[non_exhaustive]
 pub enum ReadFault {
     /// The device failed.
     Device(io::Error),
     /// Another page was found in the page's place, as its bytes tell.
     WrongPage,
+    /// The page's bytes are not those that were written, as its checksum tells: it is torn, or was spoilt
+    /// on the device.
+    Spoilt,
 }
 
 impl From<io::Error> for ReadFault {
     fn from(error: io::Error) -> ReadFault {
         ReadFault::Device(error)
+    }
+}
+
+impl fmt::Display for ReadFault {
+    fn fmt(&self, f: &mut fmt::Formatter<'_>) -> fmt::Result {
+        f.write_str(match self {
+            ReadFault::Device(_) => "the device failed",
+            ReadFault::WrongPage => "another page was found in the page's place",
+            ReadFault::Spoilt => "the page is torn or spoilt",
+        })
+    }
+}
+
+impl error::Error for ReadFault {
+    fn source(&self) -> Option<&(dyn error::Error + 'static)> {
+        match self {
+            ReadFault::Device(source) => Some(source),
+            ReadFault::WrongPage | ReadFault::Spoilt => None,
+        }
     }
 }
 
@@ -186,6 +209,11 @@ pub enum PagerError {
         /// The page that was to be read.
         page: u64,
     },
+    /// A page is torn or spoilt on the device, as [`ReadFault::Spoilt`] told. It is in no frame.
+    Spoilt {
+        /// The page.
+        page: u64,
+    },
     /// A page could not be written out, and is still unsaved.
     Write {
         /// The page. It is a victim, where the call asked for another page.
@@ -211,13 +239,13 @@ pub enum PagerError {
 }
 
 impl PagerError {
-    /// Returns the refusal for this fault: 17 for a read, 19 where another page was found, 18 for a
-    /// write-out or a sync, 12 for the log.
+    /// Returns the refusal for this fault: 17 for a read, 19 where another page or a spoilt one was found, 18
+    /// for a write-out or a sync, 12 for the log.
     pub fn refusal(&self) -> Error {
         match *self {
             PagerError::Refused(error) | PagerError::RefusedPage { error, .. } => error,
             PagerError::Read { .. } => Error::ReadFailed,
-            PagerError::WrongPage { .. } => Error::WrongPage,
+            PagerError::WrongPage { .. } | PagerError::Spoilt { .. } => Error::WrongPage,
             PagerError::Write { .. } | PagerError::Sync { .. } | PagerError::SyncFailedBefore => {
                 Error::WriteFailed
             }
@@ -229,6 +257,7 @@ impl PagerError {
         match fault {
             ReadFault::Device(source) => PagerError::Read { page, source },
             ReadFault::WrongPage => PagerError::WrongPage { page },
+            ReadFault::Spoilt => PagerError::Spoilt { page },
         }
     }
 }
@@ -248,6 +277,7 @@ impl fmt::Display for PagerError {
             PagerError::WrongPage { page } => {
                 write!(f, "another page was found in the place of page {page}")
             }
+            PagerError::Spoilt { page } => write!(f, "page {page} is torn or spoilt"),
             PagerError::Write { page, .. } => write!(f, "page {page} could not be written"),
             PagerError::Log { lsn, .. } => {
                 write!(f, "the log could not be made durable as far as LSN {lsn}")
@@ -266,6 +296,7 @@ impl error::Error for PagerError {
             PagerError::Refused(_)
             | PagerError::RefusedPage { .. }
             | PagerError::WrongPage { .. }
+            | PagerError::Spoilt { .. }
             | PagerError::SyncFailedBefore => None,
             PagerError::Read { source, .. }
             | PagerError::Write { source, .. }

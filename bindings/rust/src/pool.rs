@@ -399,7 +399,7 @@ impl Pool {
         ticket: ReadTicket,
         fault: &ReadFault,
     ) -> Result<(), Refused<ReadTicket>> {
-        let is_wrong_page = matches!(fault, ReadFault::WrongPage);
+        let is_wrong_page = !matches!(fault, ReadFault::Device(_));
         let told = self
             .own(&ticket.grant, Error::UnknownTicket)
             .and_then(|grant| {

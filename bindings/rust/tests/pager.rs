@@ -68,7 +68,7 @@ impl Memory {
 fn device_fault(fault: ReadFault) -> io::Error {
     match fault {
         ReadFault::Device(error) => error,
-        ReadFault::WrongPage => io::ErrorKind::InvalidData.into(),
+        _ => io::ErrorKind::InvalidData.into(),
     }
 }
 

@@ -10,6 +10,7 @@ use std::sync::Arc;
 #[derive(Clone)]
 pub(super) enum Fault {
     WrongPage,
+    Spoilt,
     /// One with a number of the system.
     System(i32),
     /// Another one, by its kind and its text.
@@ -20,6 +21,7 @@ impl Fault {
     pub(super) fn of(fault: &ReadFault) -> Fault {
         match fault {
             ReadFault::WrongPage => Fault::WrongPage,
+            ReadFault::Spoilt => Fault::Spoilt,
             ReadFault::Device(error) => match error.raw_os_error() {
                 Some(number) => Fault::System(number),
                 None => Fault::Other(error.kind(), error.to_string().into()),
@@ -31,6 +33,7 @@ impl Fault {
     pub(super) fn of_page(self, page: u64) -> PagerError {
         let source = match self {
             Fault::WrongPage => return PagerError::WrongPage { page },
+            Fault::Spoilt => return PagerError::Spoilt { page },
             Fault::System(number) => io::Error::from_raw_os_error(number),
             Fault::Other(kind, text) => io::Error::new(kind, &*text),
         };

@@ -11,7 +11,7 @@ use super::seats::list_of;
 use super::syncs::Syncs;
 use super::within::{self, Waited, Work};
 use super::work::{Reading, Writing};
-use crate::{Error, PageIo, PagerError, ReadFault, Result};
+use crate::{Error, PageIo, PagerError, Result};
 use std::fmt;
 use std::sync::atomic::{AtomicU64, AtomicUsize, Ordering};
 
@@ -620,10 +620,7 @@ impl<F: PageIo> SharedPager<F> {
             Ok(()) => Ok(reading.end()?),
             Err(fault) => {
                 reading.fail(&fault);
-                Err(match fault {
-                    ReadFault::Device(source) => PagerError::Read { page, source },
-                    ReadFault::WrongPage => PagerError::WrongPage { page },
-                })
+                Err(PagerError::of_read(page, fault))
             }
         }
     }

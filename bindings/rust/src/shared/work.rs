@@ -100,6 +100,7 @@ impl Drop for Reading<'_> {
             let page = ticket.page();
             let to_pool = match self.fault {
                 Some(Fault::WrongPage) => ReadFault::WrongPage,
+                Some(Fault::Spoilt) => ReadFault::Spoilt,
                 _ => ReadFault::Device(std::io::ErrorKind::Other.into()),
             };
             let mut state = self.part.lock();

@@ -75,7 +75,7 @@ fn fault_that_many_threads_are_told() {
             };
             let wanted = [0, 1].map(|number| match fault(number, of_system) {
                 ReadFault::Device(error) => error,
-                ReadFault::WrongPage => unreachable!(),
+                _ => unreachable!(),
             });
             let same = |it: &io::Error| {
                 (it.kind(), it.raw_os_error(), it.to_string())

@@ -156,7 +156,7 @@ impl Device {
     fn write_or_fail(&self, most: u64) -> io::Result<()> {
         match self.work(most, 2) {
             Err(ReadFault::Device(error)) => Err(error),
-            Err(ReadFault::WrongPage) | Ok(()) => Ok(()),
+            Err(_) | Ok(()) => Ok(()),
         }
     }
 
