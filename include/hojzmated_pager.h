@@ -34,7 +34,8 @@
  * as these calls left it, or that is a copy; hz_pager_free while another thread is in a call of that pager; a pointer
  * to other memory than its type says, or to fewer bytes than the length beside it; a write to a page's bytes, or a look
  * at them after it was given back; a callback that throws, or that longjmp leaves; a call from a signal handler, in a
- * child after fork, or of a thread that is cancelled within it; a file that was opened with O_APPEND.
+ * child after fork, or of a thread that is cancelled within it; a file that was opened with O_APPEND, or whose
+ * descriptor is closed while a pager has it.
  *
  * At its end a thread gives back the pages that it has. After that, as in handlers of atexit, hz_pager_fix and
  * hz_pager_new_page are refused with HZ_UNKNOWN_PASS, and flushes, checkpoints and hz_pager_free are made as before. A
@@ -57,7 +58,8 @@ extern "C" {
  *     HZ_PAGE_PINNED    a page that is to be dropped is fixed
  *     HZ_UNKNOWN_PASS   this thread has not fixed the page, or has given it back
  *     HZ_READ_FAILED    a page could not be read, and is in no frame; the fault has the page and the errno
- *     HZ_WRITE_FAILED   a page could not be written out, and is unsaved; the fault has the page and the errno
+ *     HZ_WRITE_FAILED   a page could not be written out, and is unsaved; the fault has the page and the errno. Or without
+ *                       a page: a file could not be made longer
  *     HZ_WRONG_PAGE     what was read is another page, or is spoilt
  *     HZ_CLOCK_FULL     the clock of a part has come to its end, as a period of nearly 2^62 may bring about. A page
  *                       that is fixed can still be fixed again
@@ -67,6 +69,7 @@ extern "C" {
  *     HZ_HAS_CORE       the handle has a pager already
  */
 enum hz_pager_refusal {
+    HZ_BAD_LENGTH = 3,        /* a page file does not end with a whole page, or has fewer pages than the config says */
     HZ_VERSION_MISMATCH = 61, /* the library was built over a core of another version, and makes no pager */
     HZ_SYNC_FAILED = 71,      /* the device could not be synced: what was written since the last good sync may be
                                  lost */
@@ -75,6 +78,10 @@ enum hz_pager_refusal {
     HZ_IN_CALLBACK = 74,      /* a callback of this pager may not make the call */
     HZ_PANICKED = 75,         /* the library found a fault of its own, of which standard error has a line; or a page
                                  has 500,000 pins or latches */
+    HZ_FILE_IN_USE = 76,      /* another pager has the page file, in this process or another, or bpool run has; or it
+                                 cannot be locked, and the fault has the errno */
+    HZ_NOT_A_FILE = 77,       /* a directory, with the errno EISDIR, or a pipe or a device, is no page file */
+    HZ_FILE_READ_ONLY = 78,   /* the descriptor is open for reading alone, and the config does not say read_only */
 };
 
 /* How a page is fixed: one of the first three, or one of them with HZ_TRY, as HZ_SHARED | HZ_TRY. */
@@ -115,6 +122,10 @@ typedef struct hz_pager_config {
     uint8_t k;            /* the K of LRU-K: 1 to 16. Else 2 */
     uint8_t tells_each_pin; /* 1: each fix is told to LRU-K at once, which takes a lock. Else a page that is fixed, or
                                was a short while ago, is fixed again without one, and such fixes are one reference */
+    uint8_t read_only;      /* for hz_pager_new_file, 1: the file is read alone, also by others at the same time. A page
+                               that is put to is never written out: HZ_WRITE_FAILED with the errno EACCES */
+    uint8_t grows;          /* for hz_pager_new_file, 1: a file with fewer pages than the field pages gets pages of zeros
+                               up to these. Else it is refused */
 } hz_pager_config;
 
 /* What a read callback answers where it found another page than it was asked for, or a wrong checksum. */
@@ -182,19 +193,29 @@ typedef struct hz_pager_stats {
 uint16_t hz_pager_new(const hz_pager_config *config, const hz_io *io, hz_pager *pager);
 
 /* Makes a pager over a page file, without a log: each LSN counts as durable. The file is open for reading and writing,
- * and is still the engine's: close it after hz_pager_free. Where config->pages is 0 it has as many pages as the file,
- * whose last one has to be whole.
+ * or with config->read_only for reading, and is still the engine's: close it after hz_pager_free. Where config->pages is
+ * 0 it has as many pages as the file. The file ends with a whole page, and has no fewer pages than config->pages; with
+ * config->grows it gets those that it lacks.
  *
- * A file of format 1 has the pages one after the other. A new one is made by ftruncate(fd, pages * page_size): it has
- * pages of zeros. A file of format 2 has 16 bytes before each page: its number and the LSN it was written with, each of
- * 8 bytes, little end first. A new one is made by hz_file_fill of hz_file.h, after
- * hz_file_init(&file, fd, 2, page_size, slot, sizeof slot): it has pages of zeros too. Or each page is made by
- * hz_pager_new_page before it is fixed otherwise, since a page that has not its number there is refused with
- * HZ_WRONG_PAGE.
+ * The file is locked by flock until hz_pager_free, exclusively, or with config->read_only so that others may read it too.
+ * Another pager over it is refused meanwhile: over the same descriptor, a copy of it, or another open of the file, in
+ * this process or another. The lock is of the descriptor's open of the file: one that the engine took by it is the same
+ * lock, and has gone after hz_pager_free. Who asks for no lock can write all the same.
+ *
+ * A file of format 1 has the pages one after the other. One of format 2 has 16 bytes before each page: its number and
+ * the LSN it was written with, each of 8 bytes, little end first. A page that has not its number there is refused with
+ * HZ_WRONG_PAGE. One of format 3 has 32 bytes: number and LSN as format 2, a checksum (CRC-32C) of the 28 other bytes and
+ * of the page, and 12 zeros. A page that has not its number or its checksum is refused with HZ_WRONG_PAGE. Where all
+ * bytes are zeros it is a page of zeros that was not written yet.
+ *
+ * A new file has no bytes, and config->grows. Or it is made by ftruncate(fd, pages * (head + page_size)) for the formats 1
+ * and 3, where head is 0 or 32; and one of format 2 by hz_file_fill of hz_file.h, after hz_file_init(&file, fd, 2,
+ * page_size, slot, sizeof slot). Each has pages of zeros. A file of format 2 may also be made by ftruncate, and each page
+ * by hz_pager_new_page before it is fixed otherwise.
  *
  * Refused: as hz_pager_new; HZ_BAD_SETTINGS for another format; HZ_READ_FAILED where the descriptor is of no open file,
- * as -1 is not: the fault has no page, and the errno that fstat gives; HZ_BAD_GEOMETRY where the file does not end with
- * a whole page, and config->pages is 0. */
+ * as -1 is not: the fault has no page, and the errno that fstat gives; HZ_NOT_A_FILE; HZ_FILE_READ_ONLY; HZ_FILE_IN_USE;
+ * HZ_BAD_LENGTH; HZ_WRITE_FAILED, without a page, where the file cannot be made longer: it may have got some pages. */
 uint16_t hz_pager_new_file(const hz_pager_config *config, int fd, int format, hz_pager *pager);
 
 /* Frees a pager, whose handle has none then. It writes nothing out: pages that are unsaved are lost, so make a

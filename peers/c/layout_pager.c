@@ -30,6 +30,8 @@ LIES(hz_pager_config, retained, 40, 8);
 LIES(hz_pager_config, pin_wait_ms, 48, 8);
 LIES(hz_pager_config, k, 56, 1);
 LIES(hz_pager_config, tells_each_pin, 57, 1);
+LIES(hz_pager_config, read_only, 58, 1);
+LIES(hz_pager_config, grows, 59, 1);
 
 HOLDS(sizeof(hz_io) == 40);
 LIES(hz_io, own, 0, 8);

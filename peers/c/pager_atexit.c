@@ -45,7 +45,7 @@ int main(void)
     for (int i = 0; i < 2; i++) {
         hz_ref page;
         files[i] = open(i ? "exit.2" : "exit.1", O_RDWR | O_CREAT | O_TRUNC, 0600);
-        must(files[i] >= 0 && !ftruncate(files[i], (off_t)PAGES * (SIZE + HEAD)), "no file");
+        must(files[i] >= 0 && !ftruncate(files[i], (off_t)PAGES * (SIZE + i * HEAD)), "no file");
         must(hz_pager_new_file(&config, files[i], i + 1, &pagers[i]) == HZ_DONE, "no pager");
         must(hz_pager_new_page(&pagers[i], PAGE, &page) == HZ_DONE, "no page");
         must(hz_pager_put(&page, 0, (const uint8_t *)"saved", 6, 0) == HZ_DONE, "no put");

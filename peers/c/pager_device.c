@@ -1,10 +1,9 @@
 /* What a pager of hojzmated_pager.h does with a device: errors of callbacks, checkpoints, calls from callbacks,
- * threads, page files, memory that is refused, and a panic.
+ * threads, memory that is refused, and a panic.
  *
  *     check/bindings        builds it with the library and the linker's --wrap of the calls for memory, and runs it
  */
 #define _POSIX_C_SOURCE 200809L
-#include "hz_file.h"
 #include "pager_test.h"
 #include <fcntl.h>
 #include <unistd.h>
@@ -411,110 +410,6 @@ static void fault_of_many(void)
     end(&pager);
 }
 
-/* ---- Page files ---- */
-
-static void files(void)
-{
-    hz_pager_config config = usual();
-    hz_pager pager = {0};
-    hz_ref ref;
-    uint64_t lsn;
-    uint8_t has_lsn, slot[16 + SIZE];
-    config.pages = 0;
-    for (int format = 1; format <= 2; format++) {
-        size_t head = format == 2 ? 16 : 0, size = head + SIZE;
-        int fd = open("pager.pages", O_RDWR | O_CREAT | O_TRUNC, 0600);
-        for (uint8_t page = 0; page < PAGES; page++) {
-            memset(slot, page, sizeof slot);
-            memset(slot, 0, 16);
-            slot[0] = page;
-            SAME(size, pwrite(fd, slot + 16 - head, size, (off_t)(page * size)));
-        }
-        SAME(HZ_DONE, hz_pager_new_file(&config, fd, format, &pager));
-        REFUSED(HZ_OUT_OF_PAGE, 1, PAGES, 0, 0, hz_pager_fix(&pager, PAGES, HZ_SHARED, &ref));
-        for (uint64_t page = 0; page < PAGES; page++) {
-            ref = fixed(&pager, page, HZ_SHARED);
-            SAME(true, is_filled(ref.bytes, SIZE, (uint8_t)page));
-            SAME(HZ_DONE, hz_pager_unfix(&ref));
-        }
-        change(&pager, 3, 0x33, 0x1234);
-        SAME(HZ_DONE, hz_pager_checkpoint(&pager, &lsn, &has_lsn));
-        SAME(size, pread(fd, slot, size, (off_t)(3 * size)));
-        SAME(true, is_filled(slot + head, 8, 0x33) && is_filled(slot + head + 8, SIZE - 8, 3));
-        if (format == 2) {
-            static const uint8_t wanted[16] = {3, 0, 0, 0, 0, 0, 0, 0, 0x34, 0x12};
-            SAME(0, memcmp(slot, wanted, 16));
-            SAME(1, pwrite(fd, "\7", 1, (off_t)(9 * size)));
-            REFUSED(HZ_WRONG_PAGE, 1, 9, 0, 0, hz_pager_fix(&pager, 9, HZ_SHARED, &ref));
-            SAYS("page 9: another page was found in its place, or a spoilt one");
-        }
-        SAME(0, ftruncate(fd, (off_t)(8 * size - 1))); /* page 7 is in no frame by now */
-        REFUSED(HZ_READ_FAILED, 1, 7, 0, EIO, hz_pager_fix(&pager, 7, HZ_SHARED, &ref));
-        end(&pager);
-        REFUSED(HZ_BAD_GEOMETRY, 0, 0, 0, 0, hz_pager_new_file(&config, fd, format, &pager)); /* no whole page */
-        SAME(0, close(fd));
-    }
-    int fd = open("pager.pages", O_RDONLY);
-    SAME(HZ_BAD_SETTINGS, hz_pager_new_file(&config, fd, 0, &pager));
-    SAME(HZ_BAD_SETTINGS, hz_pager_new_file(&config, fd, 3, &pager));
-    REFUSED(HZ_READ_FAILED, 0, 0, 0, EBADF, hz_pager_new_file(&config, -1, 1, &pager));
-    SAYS("the file could not be read: Bad file descriptor (os error 9)");
-    config.pages = 2;
-    REFUSED(HZ_READ_FAILED, 0, 0, 0, EBADF, hz_pager_new_file(&config, -1, 2, &pager));
-    SAME(HZ_DONE, hz_pager_new_file(&config, fd, 1, &pager));
-    change(&pager, 1, 1, 1);
-    REFUSED(HZ_WRITE_FAILED, 1, 1, 0, EBADF, hz_pager_flush(&pager, 1));
-    end(&pager);
-    SAME(0, close(fd));
-    for (config.pages = 0; config.pages < 3; config.pages += 2)
-        REFUSED(HZ_READ_FAILED, 0, 0, 0, EBADF, hz_pager_new_file(&config, fd, 1, &pager));
-    SAME(0, (uintptr_t)pager.own);
-}
-
-/* A new file of each format, made as the header says: pages of zeros, by hz_file_fill or ftruncate; or page by page. */
-static void new_files(void)
-{
-    static uint8_t slot[HZ_FILE_HEAD + SIZE];
-    hz_pager_config config = usual();
-    hz_pager pager = {0};
-    hz_ref ref;
-    uint64_t lsn;
-    uint8_t has_lsn;
-    for (int format = 1; format <= 2; format++) {
-        hz_file file;
-        int fd = open("pager.pages", O_RDWR | O_CREAT | O_TRUNC, 0600);
-        SAME(HZ_DONE, hz_file_init(&file, fd, format, SIZE, slot, sizeof slot));
-        if (format == 2)
-            SAME(HZ_DONE, hz_file_fill(&file, PAGES));
-        else
-            SAME(0, ftruncate(fd, PAGES * SIZE));
-        config.pages = 0;
-        SAME(HZ_DONE, hz_pager_new_file(&config, fd, format, &pager));
-        for (uint64_t page = 0; page < PAGES; page++) {
-            ref = fixed(&pager, page, HZ_SHARED);
-            SAME(true, is_filled(ref.bytes, SIZE, 0));
-            SAME(HZ_DONE, hz_pager_unfix(&ref));
-        }
-        REFUSED(HZ_OUT_OF_PAGE, 1, PAGES, 0, 0, hz_pager_fix(&pager, PAGES, HZ_SHARED, &ref));
-        end(&pager);
-        SAME(0, ftruncate(fd, 0));
-        config.pages = PAGES;
-        SAME(HZ_DONE, hz_pager_new_file(&config, fd, format, &pager));
-        for (uint64_t page = PAGES; page-- > 0;) {
-            SAME(HZ_DONE, hz_pager_new_page(&pager, page, &ref));
-            SAME(HZ_DONE, hz_pager_put(&ref, 8, (const uint8_t *)"new", 3, 0));
-            SAME(HZ_DONE, hz_pager_unfix(&ref));
-        }
-        SAME(HZ_DONE, hz_pager_checkpoint(&pager, &lsn, &has_lsn));
-        end(&pager);
-        for (uint64_t page = 0; page < PAGES; page++) {
-            SAME(HZ_DONE, hz_file_read(&file, page));
-            SAME(0, memcmp(hz_file_image(&file), "\0\0\0\0\0\0\0\0new", 12));
-        }
-        SAME(0, close(fd));
-    }
-}
-
 /* With a period of nearly 2^62 the clock comes to its end as the first page makes way for the second: from 3 on, by the
  * period and one. A page that is fixed can still be fixed again. */
 static void clock_at_its_end(void)
@@ -627,8 +522,6 @@ int main(void)
     callbacks();
     threads();
     fault_of_many();
-    files();
-    new_files();
     clock_at_its_end();
     panics();
     memory();

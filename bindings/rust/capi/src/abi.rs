@@ -28,6 +28,8 @@ pub struct hz_pager_config {
     pub pin_wait_ms: u64,
     pub k: u8,
     pub tells_each_pin: u8,
+    pub read_only: u8,
+    pub grows: u8,
 }
 
 #[repr(C)]
@@ -86,12 +88,16 @@ pub const HZ_NO_CORE: u16 = 50;
 pub const HZ_HAS_CORE: u16 = 51;
 pub const HZ_NULL: u16 = 52;
 
+pub const HZ_BAD_LENGTH: u16 = 3;
 pub const HZ_VERSION_MISMATCH: u16 = 61;
 pub const HZ_SYNC_FAILED: u16 = 71;
 pub const HZ_DEADLOCK: u16 = 72;
 pub const HZ_NOT_EXCLUSIVE: u16 = 73;
 pub const HZ_IN_CALLBACK: u16 = 74;
 pub const HZ_PANICKED: u16 = 75;
+pub const HZ_FILE_IN_USE: u16 = 76;
+pub const HZ_NOT_A_FILE: u16 = 77;
+pub const HZ_FILE_READ_ONLY: u16 = 78;
 
 pub const HZ_SHARED: u32 = 1;
 pub const HZ_EXCLUSIVE: u32 = 2;

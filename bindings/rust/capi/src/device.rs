@@ -1,15 +1,14 @@
 //! The device and log of a pager: the engine's callbacks, or a page file.
-use crate::abi::{HZ_BAD_SETTINGS, HZ_IO_WRONG_PAGE, HZ_READ_FAILED, hz_io, hz_pager_fault};
+use crate::abi::{HZ_BAD_SETTINGS, HZ_IO_WRONG_PAGE, hz_io, hz_pager_config};
 use crate::fault::{self, EBADF, Refusal, refusal};
 use crate::held;
-use hojzmated::{PageIo, ReadFault};
+use hojzmated::{Device as _, FileOptions, FilePages, Layout, OpenError, PageIo, ReadFault};
 use std::cell::{Cell, RefCell};
 use std::ffi::{c_int, c_void};
 use std::fs::File;
 use std::io;
 use std::mem::ManuallyDrop;
-use std::os::fd::FromRawFd;
-use std::os::unix::fs::FileExt;
+use std::os::fd::{FromRawFd, IntoRawFd};
 use std::ptr;
 
 /// Where a pager has its pages.
@@ -46,79 +45,58 @@ impl Callbacks {
     }
 }
 
-/// A page file of the engine, which stays open.
-pub struct PageFile {
-    file: ManuallyDrop<File>,
-    head: usize,
-}
-
-/// The refusal of a file that tells nothing of itself.
-fn unread(error: io::Error) -> Refusal {
-    hz_pager_fault::of_error(HZ_READ_FAILED, &error).note()
-}
-
-/// The bytes before a page in a file of format 2: its number and its page LSN.
-const HEAD: usize = 16;
+/// A page file of the engine, whose descriptor stays open.
+pub struct PageFile(ManuallyDrop<FilePages>);
 
 impl PageFile {
-    /// Refused for an unknown format, and for a descriptor of no open file.
+    /// Locks the file, and has it as the settings say. Refused also for an unknown format.
     ///
     /// # Safety
     /// A file of the descriptor stays open as long as this is there.
-    pub unsafe fn new(fd: c_int, format: c_int) -> Result<PageFile, Refusal> {
-        let head = match format {
-            1 => 0,
-            2 => HEAD,
+    pub unsafe fn new(
+        fd: c_int,
+        format: c_int,
+        config: &hz_pager_config,
+    ) -> Result<PageFile, Refusal> {
+        let layout = match format {
+            1 => Layout::Plain,
+            2 => Layout::Numbered,
+            3 => Layout::Checked,
             _ => return Err(refusal(HZ_BAD_SETTINGS)),
         };
         if fd < 0 {
-            return Err(unread(io::Error::from_raw_os_error(EBADF)));
+            let source = io::Error::from_raw_os_error(EBADF);
+            return Err(OpenError::NotOpened { source }.into());
         }
-        // SAFETY: this does not close it.
-        let file = ManuallyDrop::new(unsafe { File::from_raw_fd(fd) });
-        file.metadata().map_err(unread)?;
-        Ok(PageFile { file, head })
-    }
-
-    /// The number of pages that the file has. None where it does not end with a whole one.
-    pub fn pages(&self, page_size: usize) -> Result<Option<u64>, Refusal> {
-        let slot = (self.head + page_size).max(1) as u64;
-        let len = self.file.metadata().map_err(unread)?.len();
-        Ok((len % slot == 0).then_some(len / slot))
-    }
-
-    fn place(&self, page: u64, page_size: usize) -> u64 {
-        page * (self.head + page_size) as u64
-    }
-
-    fn read(&self, page: u64, image: &mut [u8]) -> Result<(), ReadFault> {
-        let at = self.place(page, image.len());
-        if self.head == 0 {
-            return Ok(self.file.read_exact_at(image, at)?);
-        }
-        with_scratch(HEAD + image.len(), |slot| {
-            self.file.read_exact_at(slot, at)?;
-            let (head, bytes) = slot.split_at(HEAD);
-            if head[..8] != page.to_le_bytes() {
-                return Err(ReadFault::WrongPage);
+        let options = FileOptions::new(config.page_size).layout(layout);
+        let options = match config.grows {
+            1.. if config.pages > 0 => options.grown_to(config.pages),
+            _ => options.pages(config.pages),
+        };
+        // SAFETY: this does not close it, nor does the drop of what has it.
+        let file = unsafe { File::from_raw_fd(fd) };
+        let opened = options.read_only(config.read_only != 0).over_or_back(file);
+        match opened {
+            Ok(pages) => Ok(PageFile(ManuallyDrop::new(pages))),
+            Err((error, file)) => {
+                let _ = file.into_raw_fd();
+                Err(error.into())
             }
-            image.copy_from_slice(bytes);
-            Ok(())
-        })?
+        }
     }
 
-    fn write(&self, page: u64, image: &[u8], lsn: u64) -> io::Result<()> {
-        let at = self.place(page, image.len());
-        if self.head == 0 {
-            return self.file.write_all_at(image, at);
-        }
-        with_scratch(HEAD + image.len(), |slot| {
-            let (head, bytes) = slot.split_at_mut(HEAD);
-            head[..8].copy_from_slice(&page.to_le_bytes());
-            head[8..].copy_from_slice(&lsn.to_le_bytes());
-            bytes.copy_from_slice(image);
-            self.file.write_all_at(slot, at)
-        })?
+    /// The number of pages that the file has.
+    pub fn pages(&self) -> u64 {
+        self.0.pages()
+    }
+}
+
+impl Drop for PageFile {
+    fn drop(&mut self) {
+        // SAFETY: it is taken once, as nobody has it any more.
+        let pages = unsafe { ManuallyDrop::take(&mut self.0) };
+        // The lock goes back, and the descriptor stays as it is.
+        let _ = pages.into_file().into_raw_fd();
     }
 }
 
@@ -187,7 +165,7 @@ fn outcome(answer: c_int) -> io::Result<()> {
 impl PageIo for Device {
     fn read_page(&self, page: u64, image: &mut [u8]) -> Result<(), ReadFault> {
         let io = match self {
-            Device::File(file) => return file.read(page, image),
+            Device::File(file) => return file.0.read_page(page, image),
             Device::Callbacks(io) => io,
         };
         // SAFETY: as the header says, and the image has this length.
@@ -200,12 +178,34 @@ impl PageIo for Device {
 
     fn write_page(&self, page: u64, image: &mut [u8], lsn: u64) -> io::Result<()> {
         let io = match self {
-            Device::File(file) => return file.write(page, image, lsn),
+            Device::File(file) => return file.0.write_page(page, image, lsn),
             Device::Callbacks(io) => io,
         };
         // SAFETY: as the header says, and the image has this length.
         let write = || unsafe { (io.write)(io.own, page, image.as_mut_ptr(), image.len(), lsn) };
         outcome(called(self, write))
+    }
+
+    fn most_pages(&self) -> usize {
+        match self {
+            Device::File(file) => file.0.most_pages(),
+            Device::Callbacks(_) => 1,
+        }
+    }
+
+    fn read_pages(&self, first: u64, count: usize, images: &mut [u8]) -> Result<(), ReadFault> {
+        match self {
+            Device::File(file) => file.0.read_pages(first, count, images),
+            // A callback is for one page, and these are not asked for.
+            Device::Callbacks(_) => Err(io::Error::from(io::ErrorKind::Unsupported).into()),
+        }
+    }
+
+    fn write_pages(&self, first: u64, images: &mut [u8], lsns: &[u64]) -> io::Result<()> {
+        match self {
+            Device::File(file) => file.0.write_pages(first, images, lsns),
+            Device::Callbacks(_) => Err(io::ErrorKind::Unsupported.into()),
+        }
     }
 
     fn make_log_durable(&self, lsn: u64) -> io::Result<()> {
@@ -221,7 +221,7 @@ impl PageIo for Device {
 
     fn sync(&self) -> io::Result<()> {
         match self {
-            Device::File(file) => file.file.sync_data(),
+            Device::File(file) => file.0.sync(),
             // SAFETY: as the header says.
             Device::Callbacks(io) => outcome(called(self, || unsafe { (io.sync)(io.own) })),
         }

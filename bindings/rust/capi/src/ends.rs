@@ -50,6 +50,8 @@ fn make_pager(handle: Handle, round: u64) {
         pin_wait_ms: 0,
         k: 0,
         tells_each_pin: 0,
+        read_only: 0,
+        grows: 0,
     };
     let io = hz_io {
         own: ptr::null_mut(),

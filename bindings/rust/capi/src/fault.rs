@@ -1,6 +1,6 @@
 //! Refusals: how the faults of the pager become numbers, and what a thread was refused last.
 use crate::abi::*;
-use hojzmated::{Error, PagerError};
+use hojzmated::{Error, OpenError, PagerError};
 use std::cell::Cell;
 use std::fmt;
 use std::io;
@@ -27,8 +27,16 @@ const EIO: i32 = 5;
 /// `EBADF`: a descriptor is of no open file.
 pub const EBADF: i32 = 9;
 
+/// `EACCES`: a file that is read alone is not written to.
+const EACCES: i32 = 13;
+/// `EISDIR`: it is a directory.
+const EISDIR: i32 = 21;
+
 fn errno_of(error: &io::Error) -> i32 {
-    error.raw_os_error().unwrap_or(EIO)
+    error.raw_os_error().unwrap_or(match error.kind() {
+        io::ErrorKind::PermissionDenied => EACCES,
+        _ => EIO,
+    })
 }
 
 /// A refusal, of which this thread has noted what it was. It is a word, so that the results of calls
@@ -117,7 +125,9 @@ impl From<PagerError> for hz_pager_fault {
         match &error {
             PagerError::Read { page, source } => of_error(HZ_READ_FAILED, source).at(*page),
             PagerError::Write { page, source } => of_error(HZ_WRITE_FAILED, source).at(*page),
-            PagerError::WrongPage { page } => hz_pager_fault::of(HZ_WRONG_PAGE).at(*page),
+            PagerError::WrongPage { page } | PagerError::Spoilt { page } => {
+                hz_pager_fault::of(HZ_WRONG_PAGE).at(*page)
+            }
             PagerError::RefusedPage { page, error } => hz_pager_fault::from(*error).at(*page),
             PagerError::Log { source, .. } => hz_pager_fault {
                 error: errno_of(source),
@@ -127,6 +137,37 @@ impl From<PagerError> for hz_pager_fault {
             PagerError::SyncFailedBefore => hz_pager_fault::of(HZ_SYNC_FAILED),
             other => other.refusal().into(),
         }
+    }
+}
+
+impl From<OpenError> for hz_pager_fault {
+    fn from(error: OpenError) -> hz_pager_fault {
+        match error {
+            OpenError::InUse => hz_pager_fault::of(HZ_FILE_IN_USE),
+            OpenError::NotLocked { source } => hz_pager_fault::of_error(HZ_FILE_IN_USE, &source),
+            OpenError::Directory => {
+                let source = io::Error::from_raw_os_error(EISDIR);
+                hz_pager_fault::of_error(HZ_NOT_A_FILE, &source)
+            }
+            OpenError::NotAFile => hz_pager_fault::of(HZ_NOT_A_FILE),
+            OpenError::ReadOnly => hz_pager_fault::of(HZ_FILE_READ_ONLY),
+            OpenError::TooShort { .. } | OpenError::BadLength { .. } => {
+                hz_pager_fault::of(HZ_BAD_LENGTH)
+            }
+            OpenError::BadGeometry => hz_pager_fault::of(HZ_BAD_GEOMETRY),
+            OpenError::NotGrown { source } => hz_pager_fault::of_error(HZ_WRITE_FAILED, &source),
+            OpenError::NotOpened { source } | OpenError::NotDirect { source } => {
+                hz_pager_fault::of_error(HZ_READ_FAILED, &source)
+            }
+            _ => hz_pager_fault::of(HZ_READ_FAILED),
+        }
+    }
+}
+
+impl From<OpenError> for Refusal {
+    #[cold]
+    fn from(error: OpenError) -> Refusal {
+        hz_pager_fault::from(error).note()
     }
 }
 
@@ -155,7 +196,9 @@ fn text_of(number: u16, has_page: bool) -> &'static str {
         HZ_PAGE_PINNED => "it is still fixed",
         HZ_BUSY => "a latch is not free, or a page is still fixed",
         HZ_UNKNOWN_PASS => "this thread has not fixed the page, or has given it back",
+        HZ_BAD_LENGTH => "the file has too few pages, or does not end with a whole one",
         HZ_READ_FAILED if !has_page => "the file could not be read",
+        HZ_WRITE_FAILED if !has_page => "the file could not be made longer",
         HZ_READ_FAILED => "it could not be read",
         HZ_WRITE_FAILED => "it could not be written",
         HZ_WRONG_PAGE => "another page was found in its place, or a spoilt one",
@@ -176,6 +219,9 @@ fn text_of(number: u16, has_page: bool) -> &'static str {
         HZ_PANICKED => {
             "the library found a fault of its own, or a page has 500,000 pins or latches"
         }
+        HZ_FILE_IN_USE => "another pager or process has the file, or it cannot be locked",
+        HZ_NOT_A_FILE => "it is a directory, a pipe or a device, and no file",
+        HZ_FILE_READ_ONLY => "the file is open for reading alone",
         _ => "a number that a newer core has",
     }
 }
@@ -210,7 +256,7 @@ mod tests {
             .map(|(_, number)| text_of(number.trim_end_matches(';').parse().unwrap_or(0), true))
             .chain([text_of(0, true), text_of(999, true)])
             .collect();
-        assert_eq!(texts.len(), 25);
+        assert_eq!(texts.len(), 29);
         for (place, text) in texts.iter().enumerate() {
             assert!(!texts[..place].contains(text), "{text}");
         }

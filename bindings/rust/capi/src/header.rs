@@ -154,7 +154,7 @@ fn numbers() {
         assert!(lines.iter().any(|line| headers.contains(line)), "{name}");
         count += 1;
     }
-    assert_eq!(count, 29);
+    assert_eq!(count, 33);
     let own = between(&headers, "enum hz_pager_refusal {", "}").unwrap().0;
     let how = between(&headers, "enum hz_how {", "}").unwrap().0;
     for line in own.lines().chain(how.lines()) {

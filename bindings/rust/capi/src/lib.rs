@@ -216,11 +216,8 @@ pub unsafe extern "C" fn hz_pager_new_file(
         // SAFETY: as the header says.
         let (config, handle) = unsafe { (given(config)?, empty(pager)?) };
         // SAFETY: a file of the descriptor is open till after `hz_pager_free`.
-        let file = unsafe { PageFile::new(fd, format) }?;
-        let pages = match config.pages {
-            0 => file.pages(config.page_size)?.ok_or(Error::BadGeometry)?,
-            some => some,
-        };
+        let file = unsafe { PageFile::new(fd, format, config) }?;
+        let pages = or(config.pages, file.pages());
         make(&config.settings(pages), Device::File(file), handle)
     })
 }
