@@ -58,8 +58,8 @@ extern "C" {
  *     HZ_PAGE_PINNED    a page that is to be dropped is fixed
  *     HZ_UNKNOWN_PASS   this thread has not fixed the page, or has given it back
  *     HZ_READ_FAILED    a page could not be read, and is in no frame; the fault has the page and the errno
- *     HZ_WRITE_FAILED   a page could not be written out, and is unsaved; the fault has the page and the errno. Or without
- *                       a page: a file could not be made longer
+ *     HZ_WRITE_FAILED   a page could not be written out, and is unsaved; the fault has the page and the errno. Or
+ *                       a file could not be made longer, and the fault has no page
  *     HZ_WRONG_PAGE     what was read is another page, or is spoilt
  *     HZ_CLOCK_FULL     the clock of a part has come to its end, as a period of nearly 2^62 may bring about. A page
  *                       that is fixed can still be fixed again
@@ -124,8 +124,8 @@ typedef struct hz_pager_config {
                                was a short while ago, is fixed again without one, and such fixes are one reference */
     uint8_t read_only;      /* for hz_pager_new_file, 1: the file is read alone, also by others at the same time. A page
                                that is put to is never written out: HZ_WRITE_FAILED with the errno EACCES */
-    uint8_t grows;          /* for hz_pager_new_file, 1: a file with fewer pages than the field pages gets pages of zeros
-                               up to these. Else it is refused */
+    uint8_t grows;          /* for hz_pager_new_file, 1: a file with fewer pages than the field pages gets pages of
+                               zeros, up to these. Else it is refused */
 } hz_pager_config;
 
 /* What a read callback answers where it found another page than it was asked for, or a wrong checksum. */
@@ -192,30 +192,31 @@ typedef struct hz_pager_stats {
  */
 uint16_t hz_pager_new(const hz_pager_config *config, const hz_io *io, hz_pager *pager);
 
-/* Makes a pager over a page file, without a log: each LSN counts as durable. The file is open for reading and writing,
- * or with config->read_only for reading, and is still the engine's: close it after hz_pager_free. Where config->pages is
- * 0 it has as many pages as the file. The file ends with a whole page, and has no fewer pages than config->pages; with
- * config->grows it gets those that it lacks.
+/* Makes a pager over a page file, without a log: each LSN counts as durable. The file is open for reading and
+ * writing, or with config->read_only for reading, and is still the engine's: close it after hz_pager_free. Where
+ * config->pages is 0 it has as many pages as the file. The file ends with a whole page, and has no fewer pages than
+ * config->pages; with config->grows it gets those that it lacks.
  *
- * The file is locked by flock until hz_pager_free, exclusively, or with config->read_only so that others may read it too.
- * Another pager over it is refused meanwhile: over the same descriptor, a copy of it, or another open of the file, in
- * this process or another. The lock is of the descriptor's open of the file: one that the engine took by it is the same
- * lock, and has gone after hz_pager_free. Who asks for no lock can write all the same.
+ * The file is locked by flock until hz_pager_free, exclusively, or with config->read_only so that others may read
+ * it too. Another pager over it is refused meanwhile: over the same descriptor, a copy of it, or another open of the
+ * file, in this process or another. The lock is of the descriptor's open of the file: one that the engine took by it
+ * is the same lock, and has gone after hz_pager_free. Who asks for no lock can write all the same.
  *
- * A file of format 1 has the pages one after the other. One of format 2 has 16 bytes before each page: its number and
- * the LSN it was written with, each of 8 bytes, little end first. A page that has not its number there is refused with
- * HZ_WRONG_PAGE. One of format 3 has 32 bytes: number and LSN as format 2, a checksum (CRC-32C) of the 28 other bytes and
- * of the page, and 12 zeros. A page that has not its number or its checksum is refused with HZ_WRONG_PAGE. Where all
- * bytes are zeros it is a page of zeros that was not written yet.
+ * A file of format 1 has the pages one after the other. One of format 2 has 16 bytes before each page: its number
+ * and the LSN it was written with, each of 8 bytes, little end first. A page that has not its number there is refused
+ * with HZ_WRONG_PAGE. One of format 3 has 32 bytes: number and LSN as format 2, a checksum (CRC-32C) of the 28 other
+ * bytes and of the page, and 12 zeros. A page that has not its number or its checksum is refused with HZ_WRONG_PAGE.
+ * Where all bytes are zeros it is a page of zeros that was not written yet.
  *
- * A new file has no bytes, and config->grows. Or it is made by ftruncate(fd, pages * (head + page_size)) for the formats 1
- * and 3, where head is 0 or 32; and one of format 2 by hz_file_fill of hz_file.h, after hz_file_init(&file, fd, 2,
- * page_size, slot, sizeof slot). Each has pages of zeros. A file of format 2 may also be made by ftruncate, and each page
- * by hz_pager_new_page before it is fixed otherwise.
+ * A new file has no bytes, and config->grows. Or it is made by ftruncate(fd, pages * (head + page_size)) for the
+ * formats 1 and 3, where head is 0 or 32; and one of format 2 by hz_file_fill of hz_file.h, after hz_file_init(&file,
+ * fd, 2, page_size, slot, sizeof slot). Each has pages of zeros. A file of format 2 may also be made by ftruncate,
+ * and each page by hz_pager_new_page before it is fixed otherwise.
  *
- * Refused: as hz_pager_new; HZ_BAD_SETTINGS for another format; HZ_READ_FAILED where the descriptor is of no open file,
- * as -1 is not: the fault has no page, and the errno that fstat gives; HZ_NOT_A_FILE; HZ_FILE_READ_ONLY; HZ_FILE_IN_USE;
- * HZ_BAD_LENGTH; HZ_WRITE_FAILED, without a page, where the file cannot be made longer: it may have got some pages. */
+ * Refused: as hz_pager_new; HZ_BAD_SETTINGS for another format; HZ_READ_FAILED where the descriptor is of no open
+ * file, as -1 is not: the fault has no page, and the errno that fstat gives; HZ_NOT_A_FILE; HZ_FILE_READ_ONLY;
+ * HZ_FILE_IN_USE; HZ_BAD_LENGTH; HZ_WRITE_FAILED, without a page, where the file cannot be made longer: it may have
+ * got some pages. */
 uint16_t hz_pager_new_file(const hz_pager_config *config, int fd, int format, hz_pager *pager);
 
 /* Frees a pager, whose handle has none then. It writes nothing out: pages that are unsaved are lost, so make a
