@@ -244,6 +244,10 @@ static void new_files(void)
         end(&pager);
         SAME(0, ftruncate(fd, 0));
         config.pages = PAGES, config.grows = 1;
+        config.frames = 0; /* what is refused for another setting does not grow */
+        SAME(HZ_BAD_SETTINGS, hz_pager_new_file(&config, fd, format, &pager));
+        SAME(0, lseek(fd, 0, SEEK_END));
+        config.frames = FRAMES;
         SAME(HZ_DONE, hz_pager_new_file(&config, fd, format, &pager));
         end(&pager);
         for (uint64_t page = 0; page < PAGES; page++) {

@@ -69,10 +69,11 @@ impl PageFile {
             return Err(OpenError::NotOpened { source }.into());
         }
         let options = FileOptions::new(config.page_size).layout(layout);
-        let options = match config.grows {
-            1.. if config.pages > 0 => options.grown_to(config.pages),
-            _ => options.pages(config.pages),
-        };
+        // It grows once it is known that the other settings are good.
+        let options = options.pages(match config.grows {
+            1.. if config.pages > 0 && config.read_only == 0 => 0,
+            _ => config.pages.max(1),
+        });
         // SAFETY: this does not close it, nor does the drop of what has it.
         let file = unsafe { File::from_raw_fd(fd) };
         let opened = options.read_only(config.read_only != 0).over_or_back(file);
@@ -88,6 +89,11 @@ impl PageFile {
     /// The number of pages that the file has.
     pub fn pages(&self) -> u64 {
         self.0.pages()
+    }
+
+    /// Adds pages of zeros to the file, where it has fewer than so many.
+    pub fn grow_to(&self, pages: u64) -> Result<(), Refusal> {
+        Ok(self.0.grow_to(pages)?)
     }
 }
 

@@ -165,7 +165,11 @@ fn make(config: &SharedConfig, device: Device, handle: Place<hz_pager>) -> Outco
     let mut place = Vec::new();
     let room = place.try_reserve_exact(1);
     room.map_err(|_| Error::OutOfMemory)?;
-    place.push(Pager::new(config, device)?);
+    let pager = Pager::new(config, device)?;
+    if let Device::File(file) = pager.io() {
+        file.grow_to(config.pages)?;
+    }
+    place.push(pager);
     let own = Box::into_raw(place.into_boxed_slice()).cast();
     handle.put(hz_pager { own });
     Ok(())

@@ -14,13 +14,14 @@ pub enum OpenError {
     /// It is neither a file nor a directory, as a pipe or a device is.
     NotAFile,
     /// The descriptor that was given is open for reading alone, and
-    /// [`read_only`](crate::FileOptions::read_only) was not asked for.
+    /// [`read_only`](crate::FileOptions::read_only) was not asked for. Or it was, and the file is to grow
+    /// ([`grow_to`](crate::FilePages::grow_to)).
     ReadOnly,
     /// The file has fewer pages than were asked for.
     TooShort {
         /// The pages that it has.
         pages: u64,
-        /// Those that were asked for, at least 1.
+        /// Those that were asked for.
         wanted: u64,
     },
     /// The file does not end with a whole page. So it has another page size or
@@ -51,7 +52,7 @@ pub enum OpenError {
         /// What the system said.
         source: io::Error,
     },
-    /// It could not be made longer. It may have got some pages of zeros behind its end.
+    /// It could not be made longer. It may have got some pages of zeros behind its end, the last in part.
     NotGrown {
         /// What the system said.
         source: io::Error,

@@ -64,7 +64,8 @@ impl FileOptions {
         self
     }
 
-    /// Refuses a file with fewer pages ([`OpenError::TooShort`]). Without this it has to have one at least.
+    /// Refuses a file with fewer pages ([`OpenError::TooShort`]). Without this it has to have one at least, and
+    /// with 0 it may be empty.
     pub const fn pages(mut self, pages: u64) -> FileOptions {
         (self.wanted, self.grows) = (pages, false);
         self
@@ -204,7 +205,7 @@ impl FileOptions {
             Err(error) => return Err((error, file)),
         };
         let mut found = FilePages::new(lock, file, self);
-        match found.begin(self.wanted.max(1), self.grows) {
+        match found.begin(self.wanted, self.grows) {
             Ok(()) => Ok(found),
             Err(error) => Err((error, found.into_file())),
         }

@@ -6,6 +6,7 @@ use crate::{ReadFault, SharedConfig};
 use std::fs::File;
 use std::ops::{Deref, DerefMut};
 use std::os::unix::fs::FileExt;
+use std::sync::atomic::{AtomicU64, Ordering};
 use std::sync::{Mutex, PoisonError};
 use std::{fmt, io};
 
@@ -66,7 +67,9 @@ pub struct FilePages {
     page_size: usize,
     layout: Layout,
     is_read_only: bool,
-    pages: u64,
+    pages: AtomicU64,
+    /// Who makes the file longer.
+    growing: Mutex<()>,
     /// Buffers that nobody uses now: for a slot, and for a row of them.
     free: [Mutex<Vec<Image>>; 2],
 }
@@ -83,7 +86,8 @@ impl FilePages {
             page_size: options.page_size,
             layout: options.layout,
             is_read_only: options.is_read_only,
-            pages: 0,
+            pages: AtomicU64::new(0),
+            growing: Mutex::new(()),
             free: Default::default(),
         }
     }
@@ -98,37 +102,50 @@ impl FilePages {
         if bytes % slot as u64 != 0 {
             return Err(OpenError::BadLength { bytes, slot });
         }
-        self.pages = bytes / slot as u64;
-        if self.pages >= wanted {
-            return Ok(());
-        }
-        if self.is_read_only || !grows {
-            let pages = self.pages;
+        let pages = bytes / slot as u64;
+        *self.pages.get_mut() = pages;
+        if pages < wanted && (self.is_read_only || !grows) {
             return Err(OpenError::TooShort { pages, wanted });
         }
-        self.grow(wanted)
+        self.grow_to(wanted)
     }
 
-    fn grow(&mut self, wanted: u64) -> Result<(), OpenError> {
-        let bytes = wanted.checked_mul(self.slot() as u64);
+    /// Adds pages of zeros to the file, up to so many, also while a pager has it. That has to have been made
+    /// with so many pages: see [`SharedConfig::pages`](crate::SharedConfig::pages). What
+    /// [`FileOptions::grown_to`] says of these pages holds of them too.
+    ///
+    /// # Errors
+    /// [`OpenError::ReadOnly`], [`OpenError::BadGeometry`] and [`OpenError::NotGrown`]. The file has no more
+    /// pages then than before, as [`pages`](Self::pages) counts them.
+    pub fn grow_to(&self, pages: u64) -> Result<(), OpenError> {
+        let _alone = self.growing.lock().unwrap_or_else(PoisonError::into_inner);
+        let first = self.pages();
+        if first >= pages {
+            return Ok(());
+        }
+        if self.is_read_only {
+            return Err(OpenError::ReadOnly);
+        }
+        let bytes = pages.checked_mul(self.slot() as u64);
         let bytes = bytes.filter(|bytes| i64::try_from(*bytes).is_ok());
         let bytes = bytes.ok_or(OpenError::BadGeometry)?;
-        let first = std::mem::replace(&mut self.pages, wanted);
         let grown = match self.layout {
-            Layout::Numbered => self.fill(first),
+            Layout::Numbered => self.fill(first, pages),
             Layout::Plain | Layout::Checked => self.file.set_len(bytes),
         };
-        grown.map_err(|source| OpenError::NotGrown { source })
+        grown.map_err(|source| OpenError::NotGrown { source })?;
+        self.pages.store(pages, Ordering::Release);
+        Ok(())
     }
 
-    /// Writes pages of zeros from this one to the last.
-    fn fill(&self, mut first: u64) -> io::Result<()> {
+    /// Writes pages of zeros.
+    fn fill(&self, mut first: u64, end: u64) -> io::Result<()> {
         let row = self.most_pages();
-        let mut zeros = Image::zeros(row * self.page_size).map_err(out_of_memory)?;
+        let zeros = Image::zeros(row * self.page_size).map_err(out_of_memory)?;
         let lsns = [0; MOST_PAGES];
-        while first < self.pages {
-            let count = (self.pages - first).min(row as u64) as usize;
-            self.write_pages(first, &mut zeros[..count * self.page_size], &lsns[..count])?;
+        while first < end {
+            let count = (end - first).min(row as u64) as usize;
+            self.write_row(first, &zeros[..count * self.page_size], &lsns[..count])?;
             first += count as u64;
         }
         Ok(())
@@ -140,9 +157,9 @@ impl FilePages {
         self.file.read_exact_at(&mut slot, 0)
     }
 
-    /// The number of pages that the file had when it was opened, or has got then.
+    /// The number of pages that the file had when it was opened, or has got since.
     pub fn pages(&self) -> u64 {
-        self.pages
+        self.pages.load(Ordering::Acquire)
     }
 
     /// The page size in bytes, without what stands before a page in its slot.
@@ -158,7 +175,7 @@ impl FilePages {
     /// The settings of a pager over all of these pages, with so many frames, by
     /// [`SharedConfig::new`].
     pub fn config(&self, frames: usize) -> SharedConfig {
-        SharedConfig::new(self.pages, self.page_size, frames)
+        SharedConfig::new(self.pages(), self.page_size, frames)
     }
 
     /// Reads a page as the device has it, and returns the LSN with which it was written: that is 0 in plain
@@ -190,7 +207,7 @@ impl FilePages {
     /// Refuses pages that the file has not, and images of another size.
     fn count(&self, first: u64, bytes: usize, count: usize) -> io::Result<()> {
         let end = first.checked_add(count as u64);
-        if end.is_none_or(|end| end > self.pages) || bytes != count * self.page_size {
+        if end.is_none_or(|end| end > self.pages()) || bytes != count * self.page_size {
             let why = "the page file has other pages, or pages of another size";
             return Err(io::Error::new(io::ErrorKind::InvalidInput, why));
         }
@@ -226,6 +243,10 @@ impl FilePages {
             let why = "the page file was opened for reading alone";
             return Err(io::Error::new(io::ErrorKind::PermissionDenied, why));
         }
+        self.write_row(first, images, lsns)
+    }
+
+    fn write_row(&self, first: u64, images: &[u8], lsns: &[u64]) -> io::Result<()> {
         if self.layout == Layout::Plain {
             return self.file.write_all_at(images, self.place(first));
         }
@@ -273,7 +294,7 @@ impl fmt::Debug for FilePages {
     fn fmt(&self, f: &mut fmt::Formatter<'_>) -> fmt::Result {
         f.debug_struct("FilePages")
             .field("file", &self.file)
-            .field("pages", &self.pages)
+            .field("pages", &self.pages())
             .field("page_size", &self.page_size)
             .field("layout", &self.layout)
             .field("is_read_only", &self.is_read_only)

@@ -1,8 +1,8 @@
 //! Pagers over page files: pages come back, and what is not the page that was written is told.
 use crate::{Folder, Outcome};
 use hojzmated::{
-    Config, Device, Error, FileOptions, FilePages, Layout, Log, Pager, PagerError, ReadFault,
-    SharedConfig, SharedPager,
+    Config, Device, Error, FileOptions, FilePages, Layout, Log, OpenError, Pager, PagerError,
+    ReadFault, SharedConfig, SharedPager,
 };
 use std::fs::{File, read};
 use std::io::{self, ErrorKind};
@@ -232,6 +232,55 @@ fn numbered_pages_have_their_numbers() -> Outcome {
     pager.checkpoint()?;
     let pages = pager.into_io().device;
     pages.read_page(900, &mut [0; SIZE])?;
+    Ok(())
+}
+
+/// A pager with more numbers than the file has pages: these come as the file grows.
+#[test]
+fn a_file_grows_beside_its_pager() -> Outcome {
+    for (layout, head) in LAYOUTS {
+        let folder = Folder::new();
+        let path = folder.join("pages");
+        let options = FileOptions::new(SIZE).layout(layout);
+        let pages = options.pages(0).create(&path)?;
+        assert_eq!(pages.pages(), 0);
+        pages.grow_to(4)?;
+        let config = SharedConfig::new(PAGES, SIZE, 8);
+        let pager = SharedPager::new(&config, pages.without_log())?;
+        pager.write(3)?.put(0, b"three", 0)?;
+        let error = pager.read(4).map(drop).unwrap_err();
+        assert!(matches!(&error, PagerError::Read { page: 4, source }
+            if source.kind() == ErrorKind::InvalidInput));
+        pager.new_page(9)?.put(0, b"nine", 0)?;
+        assert!(matches!(
+            pager.checkpoint(),
+            Err(PagerError::Write { page: 9, .. })
+        ));
+        let pages = &pager.io().device;
+        for wanted in [12, 7, 12] {
+            pages.grow_to(wanted)?;
+            assert_eq!(pages.pages(), 12);
+            assert_eq!(path.metadata()?.len(), 12 * (SIZE + head) as u64);
+        }
+        assert!(matches!(
+            pages.grow_to(u64::MAX),
+            Err(OpenError::BadGeometry)
+        ));
+        assert_eq!(*pager.read(4)?, [0; SIZE]);
+        assert_eq!(
+            (&pager.read(3)?[..5], &pager.read(9)?[..4]),
+            (&b"three"[..], &b"nine"[..])
+        );
+        pager.checkpoint()?;
+        drop(pager);
+        let pages = options.read_only(true).open(&path)?;
+        assert!(matches!(pages.grow_to(13), Err(OpenError::ReadOnly)));
+        let mut image = [0; SIZE];
+        pages.read_page(9, &mut image)?;
+        assert_eq!(image[..4], *b"nine");
+        pages.read_page(11, &mut image)?;
+        assert_eq!(image, [0; SIZE]);
+    }
     Ok(())
 }
 
