@@ -6,8 +6,9 @@
 //! library, and what a caller has to keep to. This crate keeps to that.
 //!
 //! A [`SharedPager`] is for many threads at once, with latches on its pages. A [`Pager`] is for one
-//! thread at a time. Both have a device and a log, which are the engine's: four functions of
-//! [`PageIo`]. With a pager:
+//! thread at a time. Both have a device and a log. [`FilePages`] is a device that is ready: a page file,
+//! with a lock and checksums, to which the engine's [`Log`] is joined. Or both are the engine's own: four
+//! functions of [`PageIo`]. With a pager and such a type:
 //!
 //! ```
 //! use hojzmated::{Config, PageIo, Pager, ReadFault};

@@ -10,6 +10,9 @@ use std::{error, fmt, io};
 
 /// An engine's device and log, as a [`Pager`] or a [`SharedPager`](crate::SharedPager) uses them.
 ///
+/// An engine that takes a page file as it is has a [`FilePages`](crate::FilePages), and writes a
+/// [`Log`](crate::Log) alone: [`Device::with_log`](crate::Device::with_log) makes a `PageIo` of the two.
+///
 /// The functions take `&self`: what they change is in a `Cell` or a `RefCell`, or with several
 /// threads under a lock. A file can be read and written through `&File`. A `SharedPager` calls them
 /// from several threads at once. A calling thread may hold latches of pages. So
@@ -362,7 +365,8 @@ impl<F: PageIo> Pager<F> {
     ///
     /// # Errors
     /// [`PagerError::Read`], [`PagerError::Write`] and [`PagerError::Log`] where the device or the
-    /// log failed. [`PagerError::WrongPage`] where the page's place has another page.
+    /// log failed. [`PagerError::WrongPage`] where the page's place has another page, and
+    /// [`PagerError::Spoilt`] where it is torn or spoilt.
     /// [`PagerError::Refused`] for the other refusals of [`Pool::tick`], [`Pool::fix`] and
     /// [`Pool::mark`], and with [`OutOfMemory`](Error::OutOfMemory) where there is none for a buffer
     /// of the page size. Pages that were written out before are saved.

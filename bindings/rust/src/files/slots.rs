@@ -24,7 +24,7 @@ pub enum Layout {
     /// A slot of zeros is a page of zeros. So a write that never came to the device is not found: the slot
     /// has what it had before.
     ///
-    /// A page size of 4,064, 8,160 or 16,352 bytes makes slots that begin and end with the blocks of a disk.
+    /// The program `bpool` has no such files. A page size of 4,064, 8,160 or 16,352 bytes makes slots that begin and end with the blocks of a disk.
     Checked,
 }
 

@@ -282,7 +282,8 @@ impl<F: PageIo> SharedPager<F> {
     /// page could make way, since the device or the log failed for one of them, which is told.
     /// [`PagerError::Refused`] with [`OutOfPage`](Error::OutOfPage) where the file has
     /// no such page; [`NoVictim`](Error::NoVictim) where all possible victims were pinned for too
-    /// long; [`PagerError::WrongPage`] where another page was found in the page's place;
+    /// long; [`PagerError::WrongPage`] where another page was found in the page's place, and
+    /// [`PagerError::Spoilt`] where it is torn or spoilt;
     /// [`OutOfMemory`](Error::OutOfMemory); [`Busy`](Error::Busy) in a function of the engine;
     /// [`Deadlock`](Error::Deadlock) where it would wait for a latch of this thread, if
     /// [latches are noted](SharedConfig::notes_latches).
