@@ -164,20 +164,23 @@ impl FileOptions {
             options
                 .custom_flags(flag.ok_or_else(|| not_direct(io::ErrorKind::Unsupported.into()))?);
         }
-        let file = options.open(path).map_err(|error| {
-            match self.is_direct && error.kind() == io::ErrorKind::InvalidInput {
-                true => not_direct(error),
-                false => not_opened(error),
-            }
-        })?;
+        let file = options.open(path).map_err(|error| self.refused(error))?;
         let metadata = file.metadata().map_err(not_opened)?;
         check_kind(&metadata)?;
         let locked = self.locked(file, &metadata, false);
         let pages = locked.map_err(|(error, _)| error)?;
-        if self.is_direct {
-            pages.try_first().map_err(not_direct)?;
+        if self.is_direct && pages.pages() > 0 {
+            pages.try_first().map_err(|error| self.refused(error))?;
         }
         Ok(pages)
+    }
+
+    /// The system's refusal to open a file, or to read it as is wanted.
+    fn refused(&self, error: io::Error) -> OpenError {
+        match error.kind() {
+            io::ErrorKind::InvalidInput if self.is_direct => not_direct(error),
+            _ => not_opened(error),
+        }
     }
 
     /// Refuses a descriptor that is of no file, or is not open for what is wanted.

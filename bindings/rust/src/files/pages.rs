@@ -178,15 +178,16 @@ impl FilePages {
         SharedConfig::new(self.pages(), self.page_size, frames)
     }
 
-    /// Reads a page as the device has it, and returns the LSN with which it was written: that is 0 in plain
-    /// pages, and where it was not written yet. Redo by page LSN asks so, before there is a pager.
+    /// Reads a page as the device has it, and returns the LSN with which it was written: 0 where it was not
+    /// written yet, and none in plain pages, which keep none. Redo by page LSN asks so, before there is a
+    /// pager.
     ///
     /// # Errors
     /// As [`Device::read_page`].
-    pub fn read_with_lsn(&self, page: u64, image: &mut [u8]) -> Result<u64, ReadFault> {
-        let mut lsn = 0;
-        self.read(page, 1, image, |found| lsn = found)?;
-        Ok(lsn)
+    pub fn read_with_lsn(&self, page: u64, image: &mut [u8]) -> Result<Option<u64>, ReadFault> {
+        let mut found = None;
+        self.read(page, 1, image, |lsn| found = Some(lsn))?;
+        Ok(found)
     }
 
     /// Gives the lock back, and the file.

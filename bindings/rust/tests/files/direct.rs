@@ -6,6 +6,9 @@ use std::sync::Arc;
 
 const PAGES: u64 = 64;
 
+#[repr(align(4096))]
+struct Aligned([u8; 4096]);
+
 /// A folder whose file system has `O_DIRECT`, or none.
 fn folder() -> Option<Folder> {
     let folders = [env!("CARGO_TARGET_TMPDIR"), "/var/tmp", "/tmp"];
@@ -29,6 +32,10 @@ fn direct_files() -> Outcome {
         println!("left out: no file system here has O_DIRECT");
         return Ok(());
     };
+    let empty = FileOptions::new(4096).direct(true).pages(0);
+    let pages = empty.create(folder.join("empty"))?;
+    pages.grow_to(1)?;
+    pages.read_page(0, &mut Aligned([1; 4096]).0)?;
     for (number, (layout, size)) in [
         (Layout::Plain, 4096),
         (Layout::Plain, 8192),

@@ -65,7 +65,7 @@ fn pages_come_back() -> Outcome {
         let mut image = [0; SIZE];
         for page in 0..PAGES {
             let lsn = pages.read_with_lsn(page, &mut image)?;
-            let wanted = if head == 0 { 0 } else { page + 100 };
+            let wanted = (head > 0).then_some(page + 100);
             assert_eq!((lsn, image), (wanted, [page as u8 + 1; SIZE]));
         }
         let pager = Pager::new(&Config::new(PAGES, SIZE, 3), pages.without_log())?;
