@@ -101,7 +101,9 @@ static void wrong_files(void)
     fd = open("pager.pages", O_RDONLY);
     REFUSED(HZ_FILE_READ_ONLY, 0, 0, 0, 0, hz_pager_new_file(&config, fd, 1, &pager));
     SAYS("the file is open for reading alone");
-    config.read_only = 1;
+    config.read_only = 1, config.page_size = SIZE + 8;
+    REFUSED(HZ_BAD_GEOMETRY, 0, 0, 0, 0, hz_pager_new_file(&config, fd, 1, &pager));
+    config.page_size = SIZE;
     SAME(HZ_DONE, hz_pager_new_file(&config, fd, 1, &pager));
     SAME(HZ_DONE, hz_pager_checkpoint(&pager, &lsn, &has_lsn));
     change(&pager, 1, 1, 1);
