@@ -83,6 +83,7 @@ fn readers_share_a_file() -> Outcome {
     let readers = (READING.over(file.try_clone()?)?, READING.over(file)?);
     drop(readers.0);
     assert!(is_in_use(OPTIONS.open(&path)));
+    assert_eq!(told_to_another(&path)?.as_deref(), Some(IN_USE));
     drop(readers.1);
     let pages = OPTIONS.open(&path)?;
     assert!(is_in_use(READING.open(&path)));
@@ -110,6 +111,17 @@ fn said(child: &mut Child, begin: &str) -> Option<String> {
     found
 }
 
+const IN_USE: &str = "another pager or process has the page file";
+
+/// What another process is told that opens a file which it does not get.
+fn told_to_another(path: &Path) -> io::Result<Option<String>> {
+    let mut child = other_process("locks::in_another_process", path)?;
+    let found = said(&mut child, "opened: ");
+    child.kill()?;
+    child.wait()?;
+    Ok(found)
+}
+
 /// Not a test: it is run by those below.
 #[test]
 #[ignore = "what another process does"]
@@ -132,12 +144,9 @@ fn a_pager_of_another_process_is_refused() -> Outcome {
     let path = folder.join("pages");
     let pages = OPTIONS.create(&path)?;
     let pager = SharedPager::new(&pages.config(4), pages.without_log())?;
-    let mut child = other_process("locks::in_another_process", &path)?;
-    let found = said(&mut child, "opened: ");
-    child.wait()?;
-    let wanted = "another pager or process has the page file";
-    assert_eq!(found.as_deref(), Some(wanted));
+    assert_eq!(told_to_another(&path)?.as_deref(), Some(IN_USE));
     drop(pager);
+    // No lock outlives its process.
     let mut child = other_process("locks::in_another_process", &path)?;
     let found = said(&mut child, "opened: ");
     let refused = OPTIONS.open(&path);
@@ -145,7 +154,6 @@ fn a_pager_of_another_process_is_refused() -> Outcome {
     child.wait()?;
     assert!(found.is_some_and(|it| it.starts_with("FilePages")));
     assert!(is_in_use(refused));
-    // No lock outlives its process.
     OPTIONS.open(&path)?;
     Ok(())
 }
@@ -160,7 +168,7 @@ fn the_lock_is_that_of_the_system() -> Outcome {
         let mut command = Command::new("flock");
         command.args(["--nonblock", "--conflict-exit-code", "7", how]);
         command.arg(&path).args(then);
-        command.stdout(Stdio::piped()).spawn()
+        command.stdin(Stdio::piped()).stdout(Stdio::piped()).spawn()
     };
     let mut refused = match lock("--shared", &["true"]) {
         Err(error) if error.kind() == ErrorKind::NotFound => {
@@ -172,13 +180,13 @@ fn the_lock_is_that_of_the_system() -> Outcome {
     assert_eq!(refused.wait()?.code(), Some(7));
     drop(pages);
     let mut holder = lock("--shared", &["sh", "-c", "echo has it; read end"])?;
-    // It ends as its input does.
     assert!(said(&mut holder, "has ").is_some());
-    let (refused, read) = (OPTIONS.open(&path), READING.open(&path));
-    holder.kill()?;
+    let (refused, read) = (OPTIONS.open(&path), READING.open(&path).map(drop));
+    // Its input ends here, and so it does.
     holder.wait()?;
     assert!(is_in_use(refused));
     read?;
+    OPTIONS.open(&path)?;
     Ok(())
 }
 
@@ -204,11 +212,7 @@ fn a_child_gives_no_lock_back() -> Outcome {
     // SAFETY: the status may be written to.
     assert_eq!(unsafe { waitpid(child, &mut status, 0) }, child);
     assert_eq!(status, 0);
-    let mut other = other_process("locks::in_another_process", &path)?;
-    let found = said(&mut other, "opened: ");
-    other.wait()?;
-    let wanted = "another pager or process has the page file";
-    assert_eq!(found.as_deref(), Some(wanted));
+    assert_eq!(told_to_another(&path)?.as_deref(), Some(IN_USE));
     drop(pages);
     OPTIONS.open(&path)?;
     Ok(())
