@@ -4,7 +4,7 @@ use hojzmated::{FileOptions, Layout, OpenError};
 use std::error::Error;
 use std::fs::{File, Permissions, create_dir, read, set_permissions, write};
 use std::io::{self, ErrorKind};
-use std::os::unix::fs::PermissionsExt;
+use std::os::unix::fs::{FileExt, PermissionsExt};
 use std::path::Path;
 use std::process::Command;
 
@@ -74,7 +74,9 @@ fn descriptors_for_one_way_alone() -> Outcome {
     if let Err(error) = OPTIONS.open(&path) {
         assert_eq!(io::Error::from(error).kind(), ErrorKind::PermissionDenied);
     }
-    OPTIONS.read_only(true).open(&path)?;
+    // It is opened so that nobody writes by it.
+    let file = OPTIONS.read_only(true).open(&path)?.into_file();
+    assert!(file.write_at(b"x", 0).is_err());
     Ok(())
 }
 
