@@ -93,16 +93,25 @@ fn fault_that_many_threads_are_told() {
 #[test]
 fn wrong_page_that_many_threads_are_told() {
     let _watch = Watch::over("wrong_page_that_many_threads_are_told", 120);
-    let pager = pager(|pager, number| {
-        if number == 0 {
-            wait_for(pager, 7);
-        }
-        Err(ReadFault::WrongPage)
-    });
-    let told = told(&pager, 8);
-    let is_told = |it: &Option<PagerError>| matches!(it, Some(PagerError::WrongPage { page: 7 }));
-    assert!(told.iter().all(is_told), "{told:?}");
-    assert_eq!(pager.io().asked(), [Asked::Read(7); 2]);
+    for is_spoilt in [false, true] {
+        let pager = pager(move |pager, number| {
+            if number == 0 {
+                wait_for(pager, 7);
+            }
+            Err(match is_spoilt {
+                true => ReadFault::Spoilt,
+                false => ReadFault::WrongPage,
+            })
+        });
+        let told = told(&pager, 8);
+        let is_told = |it: &Option<PagerError>| match it {
+            Some(PagerError::Spoilt { page: 7 }) => is_spoilt,
+            Some(PagerError::WrongPage { page: 7 }) => !is_spoilt,
+            _ => false,
+        };
+        assert!(told.iter().all(is_told), "{told:?}");
+        assert_eq!(pager.io().asked(), [Asked::Read(7); 2]);
+    }
 }
 
 // Who came to wait while a read was under way is not told its fault, and the next one may go well.
