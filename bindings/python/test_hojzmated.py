@@ -385,7 +385,8 @@ class Library(unittest.TestCase):
             wanted = {name: int(it) for name, it in re.findall(r"^ {4}HZ_(\w+) = (\d+)", "".join(enums), re.MULTILINE)}
             wanted.pop("DONE", None)
             self.assertEqual({it.name: it.value for it in own}, wanted)
-        self.assertEqual([(it.name, it.value) for it in hojzmated.Format], [("PLAIN", 1), ("NUMBERED", 2)])
+        formats = [("PLAIN", 1), ("NUMBERED", 2), ("CHECKED", 3)]
+        self.assertEqual([(it.name, it.value) for it in hojzmated.Format], formats)
 
     # Each public call says what it takes and gives, so that a checker of types sees it. check/bindings runs one.
     def test_annotations(self):

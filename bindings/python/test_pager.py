@@ -115,8 +115,7 @@ class Pagers(Pages):
             with open(path, "rb") as file:
                 before = file.read()
             for pages in None, 200:
-                with self.assertRaises((ValueError, hojzmated.Refused)):
-                    hojzmated.Pager(path, pages, size, 8, format=opened)
+                self.refused(3, hojzmated.Pager, path, pages, size, 8, format=opened)
             with open(path, "rb") as file:
                 self.assertEqual(before, file.read())
 
@@ -257,7 +256,7 @@ class Pagers(Pages):
         for call in pager.checkpoint, pager.stats, pager.purge, lambda: pager.read(1), lambda: pager.is_resident(1):
             self.refused(50, call)
         self.refused(2, self.pager, k=17)
-        self.refused(2, self.pager, format=3)
+        self.refused(2, self.pager, format=4)
         self.refused(1, self.pager, page_size=20)
         self.assertRaises(FileNotFoundError, hojzmated.Pager, self.path + ".none")
 
@@ -390,7 +389,7 @@ class Texts(Pages):
         long = f"{(1 << 62) + 1:,}, and has to be from 0 to {1 << 62:,}"
         for number, more, wanted in (
             (2, {"k": 17}, "k is 17, and has to be from 1 to 16"),
-            (2, {"format": 3}, "format is 3, and has to be from 1 to 2"),
+            (2, {"format": 4}, "format is 4, and has to be from 1 to 3"),
             (2, {"parts": 5}, "parts is 5, and has to be from 1 to 4"),
             (2, {"parts": 65, "frames": 100, "pages": 100}, "parts is 65, and has to be from 1 to 64"),
             (2, {"frames": 0, "parts": 0}, "frames is 0, and has to be from 1 to 4,194,304"),
@@ -400,7 +399,7 @@ class Texts(Pages):
             (1, {"page_size": 20}, "page_size is 20, and has to be a multiple of 16 from 16 to 65,536"),
             (1, {"page_size": 0}, "page_size is 0, and has to be a multiple of 16 from 16 to 65,536"),
             (1, {"pages": 1_048_577}, "pages is 1,048,577, and has to be from 1 to 1,048,576"),
-            (1, {"pages": None}, "the number of pages of the file is 0, and has to be from 1 to 1,048,576"),
+            (3, {"pages": None}, "the number of pages of the file is 0, and has to be from 1 to 1,048,576"),
         ):
             with open(self.path, "w"):
                 pass
@@ -411,8 +410,9 @@ class Texts(Pages):
         with open(self.path, "wb") as file:
             file.write(bytes(100))
         wanted = "the file has 100 bytes, and that is no whole number of pages of 64 bytes"
-        self.assertEqual(self.told(1, self.pager, pages=None), wanted)
-        self.assertRaisesRegex(ValueError, wanted, self.pager)
+        for pages in None, 16:
+            self.assertEqual(self.told(3, self.pager, pages=pages), wanted)
+        self.assertEqual(os.path.getsize(self.path), 100)
 
     def test_pages_and_offsets(self):
         with self.pager() as pager:

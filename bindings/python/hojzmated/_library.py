@@ -20,6 +20,7 @@ class Refusal(enum.IntEnum):
 
     BAD_GEOMETRY = 1  # the pages or the page size are out of their limits
     BAD_SETTINGS = 2  # another setting is
+    BAD_LENGTH = 3  # a page file does not end with a whole page
     NO_VICTIM = 11  # no page can make way
     NEED_LOG = 12
     BUSY = 13  # a latch is not free, or a page is still fixed
@@ -43,6 +44,9 @@ class Refusal(enum.IntEnum):
     NOT_EXCLUSIVE = 73  # the page is not under its exclusive latch
     IN_CALLBACK = 74
     PANICKED = 75
+    FILE_IN_USE = 76  # another pager has the page file, in this process or another
+    NOT_A_FILE = 77  # it is a directory, a pipe or a device
+    FILE_READ_ONLY = 78
 
 
 class How(enum.IntEnum):
@@ -56,10 +60,12 @@ class How(enum.IntEnum):
 
 
 class Format(enum.IntEnum):
-    """How a page file is laid out: its pages alone, or with 16 bytes before each, which are its number and its LSN."""
+    """How a page file is laid out: its pages alone, or with 16 bytes before each, which are its number and its LSN, or
+    with 32, with a checksum too."""
 
     PLAIN = 1
     NUMBERED = 2
+    CHECKED = 3
 
 
 class Refused(Exception):
@@ -117,7 +123,7 @@ class Setting(NamedTuple):
 def explained(refused: Refused, settings: Iterable[Setting]) -> Refused:
     """Returns the refusal of settings with a text that says which are wrong. Where none is known to be it stays."""
     faults = [it for it in (setting.fault() for setting in settings) if it is not None]
-    if refused.number not in (Refusal.BAD_GEOMETRY, Refusal.BAD_SETTINGS) or not faults:
+    if refused.number not in (Refusal.BAD_GEOMETRY, Refusal.BAD_SETTINGS, Refusal.BAD_LENGTH) or not faults:
         return refused
     return Refused(refused.number, "; ".join(faults))
 
@@ -182,7 +188,8 @@ class Ref(ctypes.Structure):
 class PagerConfig(ctypes.Structure):
     _fields_ = [("pages", ctypes.c_uint64), ("page_size", ctypes.c_size_t), ("frames", ctypes.c_size_t),
                 ("parts", ctypes.c_size_t), ("correlated", ctypes.c_uint64), ("retained", ctypes.c_uint64),
-                ("pin_wait_ms", ctypes.c_uint64), ("k", ctypes.c_uint8), ("tells_each_pin", ctypes.c_uint8)]
+                ("pin_wait_ms", ctypes.c_uint64), ("k", ctypes.c_uint8), ("tells_each_pin", ctypes.c_uint8),
+                ("read_only", ctypes.c_uint8), ("grows", ctypes.c_uint8)]
 
 
 class Fault(ctypes.Structure):

@@ -27,7 +27,7 @@ NO_VICTIM = int(Refusal.NO_VICTIM)
 WAITING = int(Refusal.BUSY), NO_VICTIM
 NEW = 0  # what `new_page` has in the place of these
 NO_PERIOD = (1 << 64) - 1
-HEAD = 16
+HEADS = {Format.PLAIN: 0, Format.NUMBERED: 16, Format.CHECKED: 32}  # the bytes before a page
 MOST_PARTS = 64
 MOST_PAGE = 1 << 16
 # How long the main thread waits before it asks again for a page that nobody has told to be free.
@@ -260,9 +260,11 @@ class Pager:
     """A pool for many threads over the pages of a file, with a latch on each page, which is a lock on that page alone.
 
     `path` is the file. With `pages` it is made if it is not there, and gets pages of zeros where it has less; without,
-    it has as many as it has. A file that does not end with a whole page is refused, and nothing is written to it.
-    `format` is a `Format`: 1 is a file of the bytes of the pages alone, 2 has 16 bytes before each, with its number and
-    its LSN.
+    it has as many as it has. A file that does not end with a whole page is refused with 3, and nothing is written to
+    it. `format` is a `Format`: 1 is a file of the bytes of the pages alone, 2 has 16 bytes before each, with its number
+    and its LSN, and 3 has 32, with a checksum too.
+
+    The file is locked until `close`: another pager over it is refused with 76, in this process or another.
 
     At most `frames` pages are in memory, and LRU-`k` chooses who makes way. `correlated` and `retained` are its
     periods, in fixes, by default an eighth of the frames and eight times the frames. `parts` are pools side by side, by
@@ -270,8 +272,8 @@ class Pager:
     refused with 11 then. The attributes `pages` and `page_size` tell what the file has.
 
     Threads may share a pager, and run side by side in its calls. There is no log. A refusal is raised as `Refused`, and
-    an error of the file is one, with its `errno`. Only one process at a time may use a file: in a child that was forked
-    each call of the parent's pager is refused with 50, and it has to make one of its own.
+    an error of the file is one, with its `errno`. In a child that was forked each call of the parent's pager is refused
+    with 50, and it has to make one of its own.
 
     What was put is in the file for good after a `checkpoint`. A `with` that ends well makes one, and closes the pager.
     If that is refused the pager stays open and nothing is lost: the call can be made again. A `with` that ends by an
@@ -294,11 +296,11 @@ class Pager:
         config = PagerConfig(
             pages=number_of("pages", pages or 0), page_size=number_of("page_size", page_size),
             frames=number_of("frames", frames), parts=number_of("parts", parts), correlated=_period(correlated),
-            retained=_period(retained), pin_wait_ms=max(1, int(pin_wait * 1000)), k=number_of("k", k, BYTE))
+            retained=_period(retained), pin_wait_ms=max(1, int(pin_wait * 1000)), k=number_of("k", k, BYTE), grows=1)
         format = number_of("format", format, 1 << 31)
         self._library, self._pager, self._path, self._pin_wait = pager_library(), PagerHandle(), path, pin_wait
         self._process, self._is_of_parent = os.getpid(), False
-        self.page_size, self._head = config.page_size, HEAD if format == Format.NUMBERED else 0
+        self.page_size, self._head = config.page_size, next((size for it, size in HEADS.items() if it == format), 0)
         # The calls that were made for the main thread, and may go on without it.
         self._calls: weakref.WeakSet[_Call] = weakref.WeakSet()
         # The page that the main thread waits for, while it has the turn; and that a page was given back meanwhile.
@@ -319,14 +321,10 @@ class Pager:
             self._call("hz_pager_new_file", config, self._fd, format, self._pager)
         except Refused as it:
             told = explained(it, self._settings(config, format))
-            if told is it and it.number == Refusal.BAD_GEOMETRY:
+            if told is it and it.number == Refusal.BAD_LENGTH:
                 told = Refused(it.number, self._length_fault())
             raise told from None
-        fault = self._length_fault()
-        if fault:
-            raise ValueError(fault)
         self.pages = config.pages or self._pages_of_file()
-        self._fill()
 
     def _settings(self, config: PagerConfig, format: int) -> List[Setting]:
         """The settings with their limits, but for those that have a default."""
@@ -335,7 +333,7 @@ class Pager:
             Setting("pages" if config.pages else "the number of pages of the file", pages, 1, parts * MOST_PAGES),
             Setting("page_size", config.page_size, LEAST_PAGE, MOST_PAGE, LEAST_PAGE),
             Setting("frames", config.frames, 1, parts * MOST_FRAMES), Setting("k", config.k, 1, MOST_K),
-            Setting("format", format, Format.PLAIN, Format.NUMBERED)]
+            Setting("format", format, Format.PLAIN, Format.CHECKED)]
         if config.parts:
             found.append(Setting("parts", config.parts, 1, max(1, min(MOST_PARTS, pages, config.frames))))
         periods = ("correlated", config.correlated), ("retained", config.retained)
@@ -348,21 +346,11 @@ class Pager:
         return self._length() // max(1, self._head + self.page_size)
 
     def _length_fault(self) -> Optional[str]:
-        """A file that does not end with a whole page has another format or page size: nothing is written to it."""
+        """What is wrong with a file that has another format or page size."""
         slot, length = self._head + self.page_size, self._length()
         if slot == 0 or length % slot == 0:
             return None
         return f"the file has {length:,} bytes, and that is no whole number of pages of {slot:,} bytes"
-
-    def _fill(self) -> None:
-        """Adds pages of zeros to the file, up to as many as it is to have."""
-        slot, first, fd = self._head + self.page_size, self._pages_of_file(), self._fd
-        assert fd is not None
-        if self._head:
-            for page in range(first, self.pages):
-                os.pwrite(fd, page.to_bytes(8, "little").ljust(slot, b"\0"), page * slot)
-        elif first < self.pages:
-            os.truncate(fd, self.pages * slot)
 
     # ---- Calls
 
