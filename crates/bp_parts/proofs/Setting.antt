@@ -8,9 +8,9 @@ use Rattle.bp_page.specs.declared.refusals.Refusal.{Refusal}
 use Rattle.bp_trail.specs.Parameters.{Parameters}
 use Rattle.bp_trail.specs.Trail.{Trail}
 use Rattle.bp_shared.specs.Sessions.{SessionValue}
-use Rattle.bp_shared.specs.Keeping.{Acts, KeepsSession, MayAct}
+use Rattle.bp_shared.specs.Keeping.{KeepsSession, MayAct}
 use Rattle.bp_shared.proofs.Acting.{may_act}
-use Rattle.bp_parts.specs.Parts.{PartedValue, AreSessionsOf, IsSessionOf, InPart}
+use Rattle.bp_parts.specs.Parts.{AreSessionsOf, IsSessionOf, InPart}
 
 -- the session of one part is set, and is the client's still
 pub kept_set : (client part : ℕ) (xs : List SessionValue) (s : SessionValue) → AreSessionsOf client xs → IsSessionOf client part s → part < length xs → AreSessionsOf client (slice_set xs part s)
@@ -57,16 +57,9 @@ in_part Did part client xs was is d are below stood did = record {
 }
 
 -- a call leaves a session in its part
-pub stays_by : {A : Type 0} (c : Parameters) (start : Trail) (r : Result A Refusal) (old new : SessionValue) → Acts c start r old new → new.part ≡ old.part
-stays_by c start r old new acts = go (may_act c start r old new acts)
+pub stays : {A : Type 0} (c : Parameters) (start : Trail) (r : Result A Refusal) (old new : SessionValue) → KeepsSession c start r old new → new.part ≡ old.part
+stays c start r old new k = go (may_act c start r old new k.acts)
   where
     go : MayAct c start old new → new.part ≡ old.part
     go (inl i) = i.part
     go (inr a) = a.part
-
-pub stays : {A : Type 0} (c : Parameters) (start : Trail) (r : Result A Refusal) (old new : SessionValue) → KeepsSession c start r old new → new.part ≡ old.part
-stays c start r old new k = stays_by c start r old new k.acts
-
--- what it did, in other words
-pub did_so : (part : ℕ) (old new : PartedValue) (Did So : SessionValue → SessionValue → Type 0) → ((s t : SessionValue) → Did s t → So s t) → InPart part old new Did → InPart part old new So
-did_so part old new Did So more p = record { was = p.was; is = p.is; old_is = p.old_is; own = p.own; new_is = p.new_is; did = more p.was p.is p.did }

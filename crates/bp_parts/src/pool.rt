@@ -5,7 +5,6 @@ use bp_core::{Discarded, Flushed};
 use bp_keeper::{ListKeeper, RecordingKeeper};
 use bp_page::{Image, Lsn, PageNo, Refusal};
 use bp_ports::{Port, Store, StripedPort};
-use bp_session_log::{Event, Purge, Tick};
 use bp_shared::PartNames;
 use bp_shared::pool::SharedPool;
 use bp_shared::session::Session;
@@ -50,7 +49,6 @@ impl<N: PartNames + PartCount, K: ListKeeper> PartedPool<N, K> {
     ghost use Rattle.bp_page.specs.declared.refusals.Refusal.TheVariants as Refusal;
     ghost use Rattle.bp_session_log.specs.Turns.{ReadIntoSaid, WriteSaid};
     ghost use Rattle.bp_core.specs.Work.{MadeBlank};
-    ghost use Rattle.bp_shared.specs.Keeping.{Made};
     ghost use Rattle.bp_shared.specs.Sessions.{DoesWorkSaid, PageReadSaid};
     ghost use Rattle.bp_shared.specs.Telling.{Sees};
     ghost use Rattle.bp_shared.specs.Writing.{WithLsnSeen};
@@ -264,25 +262,6 @@ impl<N: PartNames + PartCount, K: ListKeeper> PartedPool<N, K> {
         }
     }
 
-    /// Makes one event in one part, as `SharedPool::make` does.
-    fn make_in<E: Event<K>, R: Wait>(
-        &self,
-        rt: &R,
-        session: &mut PartedSession<N, K>,
-        part: u8,
-        event: E,
-    ) -> Result<E::Answer, Refusal>
-        requires part { part < N.parts }
-        requires may { E.may event session.old.client N.parameters }
-        ensures client { session.new.client ≡ session.old.client }
-        ensures outcome { InPart part session.old session.new (λ old new.
-            Made K.REFUSES N.parameters N.past (E.wants event) (E.does event) (E.says event)
-            (E.cause event) E.passes E.places result old new) }
-    {
-        let mine = &mut session.sessions[part as usize];
-        self.pool_of(mine).make(rt, mine, event)
-    }
-
     /// Forgets old references of one part, as `SharedPool::purge` does, and returns the number of their pages.
     pub fn purge<R: Wait>(
         &self,
@@ -295,7 +274,8 @@ impl<N: PartNames + PartCount, K: ListKeeper> PartedPool<N, K> {
         ensures outcome { InPart part session.old session.new (λ old new.
             PurgesIn K.REFUSES N.parameters N.past result old new) }
     {
-        self.make_in(rt, session, part, Purge)
+        let mine = &mut session.sessions[part as usize];
+        self.pool_of(mine).purge(rt, mine)
     }
 
     /// Moves the clock of one part on, as `SharedPool::tick` does.
@@ -311,7 +291,8 @@ impl<N: PartNames + PartCount, K: ListKeeper> PartedPool<N, K> {
         ensures outcome { InPart part session.old session.new (λ old new.
             TicksIn K.REFUSES N.parameters N.past n result old new) }
     {
-        self.make_in(rt, session, part, Tick(n))
+        let mine = &mut session.sessions[part as usize];
+        self.pool_of(mine).tick(rt, mine, n)
     }
 
     /// Writes a page of the file out in its part, as `SharedPool::flush` does.

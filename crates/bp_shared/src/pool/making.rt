@@ -14,7 +14,7 @@ impl<N: PartNames, K: ListKeeper> SharedPool<N, K> {
     /// Takes the memory for one event, and makes it in one critical section. Where that answers `Busy`, some device work
     /// has ended at the return. `OutOfMemory` may come before the pool is asked.
     #[inline(always)]
-    pub fn make<E: Event<K>, R: Wait>(
+    pub(crate) fn make<E: Event<K>, R: Wait>(
         &self,
         rt: &R,
         session: &mut Session<N, K>,

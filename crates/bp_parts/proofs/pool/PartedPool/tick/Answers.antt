@@ -1,13 +1,17 @@
--- One event in one part.
-use Rattle.std.proofs.Common.{arith}
-use Rattle.bp_shared.proofs.Acting.{roomy_still, or_never}
-use Rattle.bp_parts.proofs.Setting.{did_so}
+-- The session of one part did so, and the others are as they were.
+use Rattle.std.proofs.Common.{rules, arith, refl}
+use Rattle.bp_parts.proofs.Setting.{kept_by, in_part, own_at, stays}
 use Rattle.bp_parts.proofs.pool.PartedPool.tick.Goals as goal
 
+pub pool_of-requires : goal.pool_of-requires
+pool_of-requires g c =
+    let own = own_at _ c.args.part c.session.inside.sessions.items c.index_mut-mine.result.now _ c.session.invariant.1 (omega (arith, c.session.invariant.0, c.requires.part)) c.index_mut-mine.ensures.value in
+    omega (arith, own.part_is, c.requires.part)
+
+pub invariant_of-session : goal.invariant_of-session
+invariant_of-session g c =
+    (search rules, kept_by _ c.args.part c.session.inside.sessions.items c.index_mut-mine.result.now c.tick.new.session _ c.session.invariant.1 (omega (arith, c.session.invariant.0, c.requires.part)) c.index_mut-mine.ensures.value c.tick.ensures.keeps.client (stays _ _ _ _ _ c.tick.ensures.keeps))
+
 pub returns : goal.returns
-returns g c = record {
-  client = c.make_in.ensures.client;
-  outcome = did_so _ _ _ _ _
-      (λ s t done. record { keeps = record { client = done.client; before = done.before; acts = done.acts; roomy = roomy_still s t done.passes_left done.places_left }; outcome = done.outcome; room = λ full. done.why _ full (λ is. cc); clock_full = λ over. done.why _ over (λ is. cc); memory = λ silent no. or_never (done.memory silent (omega arith) (omega arith) no) })
-      c.make_in.ensures.outcome;
-}
+returns g c =
+    rw (← c.session.view_is) (record { client = refl; outcome = in_part _ c.args.part _ _ c.index_mut-mine.result.now c.tick.new.session _ c.session.invariant.1 (omega (arith, c.session.invariant.0, c.requires.part)) c.index_mut-mine.ensures.value c.tick.ensures })
