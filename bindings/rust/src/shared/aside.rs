@@ -76,9 +76,13 @@ impl<'a> Failed<'a> {
         Ok(())
     }
 
+    pub(super) fn has_fault(&self) -> bool {
+        self.fault.is_some()
+    }
+
     /// Whether the call is to be refused at once where the pool has no victim.
     pub(super) fn is_in_vain(&self, part: &Part, state: &State) -> bool {
-        self.fault.is_some() && part.has_no_other(state)
+        self.has_fault() && part.has_no_other(state)
     }
 
     /// The first fault, or what is given where there is none.

@@ -13,6 +13,10 @@ pub(super) const GROUPS: usize = 64;
 /// frame that comes free before the group is awake.
 const PATIENCE: Duration = Duration::from_micros(100);
 
+/// So long a call waits that has found a fault. While it does, the pages that it has set aside are kept from calls
+/// for which they might go out by now, and from those that have pins and wait for a frame themselves.
+const WITH_FAULT: Duration = Duration::from_millis(5);
+
 /// Calls that wait for a frame, in groups. Each call that comes is a group of its own, until there are
 /// [`GROUPS`] of them: then it joins the last one. The first group has its turn.
 ///
@@ -109,6 +113,8 @@ pub(super) struct Patience {
     /// None where it does not wait.
     most: Option<Duration>,
     began: Option<Instant>,
+    /// When it first had to wait after it had found a fault.
+    fault_since: Option<Instant>,
     /// It had its turn, or was given a victim. So it does not stand behind those that came later.
     pub(super) had_turn: bool,
     /// The page is made anew, whatever was read ahead of it.
@@ -120,16 +126,22 @@ impl Patience {
         Patience {
             most,
             began: None,
+            fault_since: None,
             had_turn: false,
             is_new,
         }
     }
 
     /// How long it may still wait. None where it may not.
-    fn left(&mut self) -> Option<Duration> {
+    fn left(&mut self, has_fault: bool) -> Option<Duration> {
         let most = self.most?;
-        let began = *self.began.get_or_insert_with(Instant::now);
-        most.checked_sub(began.elapsed()).filter(|it| !it.is_zero())
+        let began = self.began.get_or_insert_with(Instant::now);
+        let mut left = most.saturating_sub(began.elapsed());
+        if has_fault {
+            let since = self.fault_since.get_or_insert_with(Instant::now);
+            left = left.min(WITH_FAULT.saturating_sub(since.elapsed()));
+        }
+        (!left.is_zero()).then_some(left)
     }
 }
 
@@ -164,7 +176,7 @@ impl Part {
                 return (state, fixed);
             }
         }
-        if patience.left().is_none() {
+        if patience.left(failed.has_fault()).is_none() {
             return (state, Err(Error::NoVictim));
         }
         let ticket = state.line.join(page, patience.had_turn);
@@ -201,7 +213,7 @@ impl Part {
                     return (state, fixed);
                 }
             }
-            let Some(left) = patience.left() else {
+            let Some(left) = patience.left(failed.has_fault()) else {
                 return (state, Err(Error::NoVictim));
             };
             state.waits += 1;

@@ -152,7 +152,8 @@ use std::sync::atomic::{AtomicU64, AtomicUsize, Ordering};
 /// Other pages can be used: where a victim could not be written out, or its log record not be made durable,
 /// the call goes on with the next one, and keeps the page in its frame meanwhile, without a latch. It counts
 /// as used just then. So a call is refused only where no page can make way, with the first fault. If other
-/// pages are pinned it waits for them before. It does not ask the log again for what that could not do.
+/// pages are pinned it waits for them before, for 5 milliseconds at most: so long no other call tries the pages
+/// that it keeps. It does not ask the log again for what that could not do.
 ///
 /// Where the device or the log panics, so does the call. A later one chooses another victim: the next one,
 /// or with a correlated period of 0 one after up to K such calls. Where the pager is dropped, pages that
