@@ -236,7 +236,8 @@ uint16_t hz_pager_free(hz_pager *pager);
  *     HZ_BUSY          with HZ_TRY, where the latch is not free
  *     HZ_NO_VICTIM     with HZ_TRY at once
  *     HZ_UNKNOWN_PASS  in a handler of atexit, and the like
- *     HZ_NEED_LOG, HZ_WRITE_FAILED  no page could make way; the fault is that of the first one that was tried
+ *     HZ_NEED_LOG, HZ_WRITE_FAILED  no page could make way; the fault is that of the first one that was tried. If
+ *                       other pages are pinned, the call waits for them before, for 5 ms at most
  *     HZ_READ_FAILED, HZ_WRONG_PAGE, HZ_CLOCK_FULL, HZ_OUT_OF_MEMORY
  */
 uint16_t hz_pager_fix(const hz_pager *pager, uint64_t page, uint32_t how, hz_ref *ref);

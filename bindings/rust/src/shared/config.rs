@@ -81,7 +81,9 @@ pub struct SharedConfig {
     /// instructions. Where it is false nothing is noted.
     pub notes_latches: bool,
     /// The time for which a call waits for another thread to unpin a page, where all possible
-    /// victims are pinned. After that it is refused with [`Error::NoVictim`].
+    /// victims are pinned. After that it is refused with [`Error::NoVictim`]. A call that has found a fault
+    /// of the device or the log, and keeps the pages that cannot go out, waits for others 5 milliseconds
+    /// at most.
     pub pin_wait: Duration,
 }
 
