@@ -33,7 +33,7 @@ extern "C" {
 
 /* The version of this header; hz_version tells that of the library. */
 #define HZ_VERSION_MAJOR 0
-#define HZ_VERSION_MINOR 12
+#define HZ_VERSION_MINOR 13
 #define HZ_VERSION_PATCH 0
 #define HZ_VERSION (HZ_VERSION_MAJOR * 10000 + HZ_VERSION_MINOR * 100 + HZ_VERSION_PATCH)
 

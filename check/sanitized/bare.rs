@@ -7,7 +7,7 @@
 //! device is plain memory too. So the thread sanitizer finds each order between threads that the pager fails to give.
 use hojzmated::pthreads::{LATCH_WAITS, Mutex};
 use hojzmated::{
-    Error, PageIo, PageMut, PagePin, PagerError, ReadFault, SharedConfig, SharedPager, noted,
+    Error, PageIo, PageMut, PagePin, PagerError, ReadFault, PagerConfig, Pager, noted,
 };
 use std::cell::UnsafeCell;
 use std::sync::atomic::{AtomicU64, Ordering::Relaxed};
@@ -92,7 +92,7 @@ impl PageIo for Device {
 }
 
 struct Engine<'a> {
-    pager: &'a SharedPager<Device>,
+    pager: &'a Pager<Device>,
     /// The LSN of each page's newest write. It changes under the page's exclusive latch.
     newest: Box<[Plain<u64>]>,
     log_end: AtomicU64,
@@ -199,17 +199,17 @@ impl Numbers {
 
 fn round(number: usize, counts: &Counts) {
     let (threads, frames, parts, correlated) = ROUNDS[number % ROUNDS.len()];
-    let config = SharedConfig {
+    let config = PagerConfig {
         parts,
         correlated,
         pin_wait: Duration::from_secs(60),
-        ..SharedConfig::new(PAGES, SIZE, frames)
+        ..PagerConfig::new(PAGES, SIZE, frames)
     };
     let device = Device {
         pages: plain([0; SIZE]),
         durable: AtomicU64::new(0),
     };
-    let pager = SharedPager::new(&config, device).expect("a pager");
+    let pager = Pager::new(&config, device).expect("a pager");
     let (log_end, sent) = (AtomicU64::new(0), Mutex::default());
     let engine = Engine {
         pager: &pager,

@@ -22,7 +22,7 @@
  * page clean, or where pages leave that are not written out.
  *
  * THREADS threads operate at once, or one. A core has one owner, so more than one there are over the others alone.
- * bindings/rust/examples/bench_shared.rs does the same through Rust.
+ * bindings/rust/examples/bench_pager.rs does the same through Rust.
  *
  * Printed: operations a second of the wall clock, over all threads, and the hit rate; K and the period of this pool.
  */

@@ -11,14 +11,14 @@ Berkeley DB. A round runs the three one after the other for each use and page si
 rounds of a second, where nothing else is said. Printed is a table: millions of operations a second of the wall clock,
 the median of the rounds, and the ratio to Berkeley DB in the same round: the median, and the least to the greatest.
 
-The settings are those of Config::new: K 2, a correlated period of an eighth of the frames, and a clock that moves at
+The settings are those of core::Config::new: K 2, a correlated period of an eighth of the frames, and a clock that moves at
 each fix. Where pages are evicted a second row has no period, beside the same figures of Berkeley DB. Each pool is in
 its steady state: eight operations for each frame come before those that count.
 
 With FRAMES in the environment, 256 to 65,536, the pools have so many in place of 4,096, and pages are of 4,096 bytes
 alone; with K they have another K.
 
-With `threads` it measures the pager that many threads share, through Rust by bindings/rust/examples/bench_shared.rs and
+With `threads` it measures the pager that many threads share, through Rust by bindings/rust/examples/bench_pager.rs and
 through C by peers/c/bench.c, in pages of 4,096 bytes and with 1, 2 and 4 threads. It has 4,096 frames. Beside it is peers/c/bench.c with Berkeley DB, and for look-ups
 in a tree also LMDB, by peers/c/lmdb.c. The operations are those of all threads.
 
@@ -42,7 +42,7 @@ import time
 
 TOP = os.path.dirname(os.path.dirname(os.path.dirname(os.path.realpath(__file__))))
 CC = [os.environ.get("CC", "cc"), "-std=gnu11", "-O3"]  # as cargo has it
-C, RUST, SHARED, PEER, LMDB = "C", "Rust", "SharedPager", "Berkeley DB", "LMDB"
+C, RUST, PAGER, PEER, LMDB = "C", "Rust", "Pager", "Berkeley DB", "LMDB"
 PEERS = (PEER, LMDB)
 SIZES, THREADS = (4096,) if "FRAMES" in os.environ else (1024, 4096, 8192), (1, 2, 4)
 FRAMES, SHARED_FRAMES = int(os.environ.get("FRAMES", "4096")), 4096
@@ -85,7 +85,7 @@ class Shared:
         pager = f"{prefix}/lib/libhojzmated_pager.a"
         linked = "-DPAGER", f"-I{prefix}/include", pager
         in_c = compiled(f"{folder}/pager", "bench.c", *linked) if os.path.exists(pager) else None
-        return {SHARED: example(folder, prefix, "bench_shared"), C: in_c, PEER: peer(folder),
+        return {PAGER: example(folder, prefix, "bench_pager"), C: in_c, PEER: peer(folder),
                 LMDB: compiled(f"{folder}/lmdb", "lmdb.c", "-llmdb", is_needed=False)}
 
     @staticmethod

@@ -8,7 +8,7 @@ import operator
 import os
 from typing import Any, Iterable, List, NamedTuple, Optional, SupportsIndex, Type, Union
 
-__version__ = "0.12.0"
+__version__ = "0.13.0"
 
 BYTE = 1 << 8
 

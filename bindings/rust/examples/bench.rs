@@ -1,5 +1,5 @@
-//! Pages in memory that are fixed, used and given back, through this crate: what `peers/c/bench.c`
-//! does through C, with the same pages in the same order.
+//! Pages in memory that are fixed, used and given back, through a core of this crate: what
+//! `peers/c/bench.c` does through C, with the same pages in the same order.
 //!
 //!     bench USE SIZE SECONDS
 //!
@@ -7,10 +7,10 @@
 //! in frames, and are taken at random. USE is what is done with each: `nothing`; `look` at 16 bytes;
 //! the sum of the `page`; an `update` of 8 bytes. With `tree` it is a look-up in a B+tree of three
 //! levels, which has nearly as many pages. Pages are looked at in place. The settings are those of
-//! `Config::new`, but for $K and $PERIOD, and the clock moves at each fix.
+//! `core::Config::new`, but for $K and $PERIOD, and the clock moves at each fix.
 //!
 //! Printed: operations a second of wall clock, and the sum of what was seen.
-use hojzmated::{Config, Fixed, PageGuard, Pool};
+use hojzmated::core::{Config, Fixed, PageGuard, Pool};
 use pages::{Numbers, asked_for, fill, sum_of, tree, two_words};
 use std::error::Error;
 use std::time::{Duration, Instant};

@@ -1,5 +1,5 @@
 //! Counters in pages, under a log: wherever this is killed, the next run has each that was logged.
-use hojzmated::{Device, FileOptions, FilePages, Log, SharedPager, WithLog};
+use hojzmated::{Device, FileOptions, FilePages, Log, Pager, WithLog};
 use std::sync::{Mutex, atomic::AtomicBool, atomic::Ordering::SeqCst};
 use std::{error::Error, fs::File, io, os::unix::fs::FileExt, thread};
 
@@ -23,7 +23,7 @@ impl Log for Records {
     }
 }
 
-type Engine = SharedPager<WithLog<FilePages, Records>>;
+type Engine = Pager<WithLog<FilePages, Records>>;
 
 fn add(pager: &Engine, log_end: &Mutex<u64>, number: u64) -> Done {
     let mut page = pager.write(number)?; // no other thread has the page until this is dropped
@@ -42,7 +42,7 @@ fn main() -> Done {
     let options = File::options().read(true).write(true).create(true).clone();
     let (file, lost) = (options.open("engine.log")?, false.into());
     let config = pages.config(256);
-    let pager = &SharedPager::new(&config, pages.with_log(Records { file, lost }))?;
+    let pager = &Pager::new(&config, pages.with_log(Records { file, lost }))?;
     let (log, mut rec) = (&pager.io().log.file, [[0; 8]; 4]);
     log.read_at(&mut rec[0], 0)?;
     let mut end = u64::from_le_bytes(rec[0]).max(RECORD); // a new log has no head yet

@@ -9,7 +9,7 @@
 //!
 //! Three threads make a file each, count in its pages, and make it longer; a file of scratch pages grows
 //! beside them, and is removed. Each run of the program counts one more.
-use hojzmated::{PageIo, PagerError, ReadFault, SharedConfig, SharedPager};
+use hojzmated::{PageIo, Pager, PagerConfig, PagerError, ReadFault};
 use std::collections::BTreeMap;
 use std::error::Error;
 use std::fs::{self, File};
@@ -127,7 +127,7 @@ impl PageIo for Files {
 }
 
 /// Removes a file. Its pages leave their frames unwritten, and then others may have their numbers.
-fn remove(pager: &SharedPager<Files>, name: &str) -> Outcome {
+fn remove(pager: &Pager<Files>, name: &str) -> Outcome {
     let files = pager.io();
     let numbers = files.numbers.read().map_err(|_| "a thread panicked")?;
     let own = numbers.files.get(name).ok_or("no such file")?.runs.clone();
@@ -143,7 +143,7 @@ fn remove(pager: &SharedPager<Files>, name: &str) -> Outcome {
 }
 
 /// Adds one to the count of each page that the file has, and then so many pages that count one.
-fn count(pager: &SharedPager<Files>, name: &str, more: u64) -> Outcome {
+fn count(pager: &Pager<Files>, name: &str, more: u64) -> Outcome {
     let pages = pager.io().open(name)?;
     for page in 0..pages + more {
         let number = pager.io().number(name, page)?;
@@ -157,7 +157,7 @@ fn count(pager: &SharedPager<Files>, name: &str, more: u64) -> Outcome {
     Ok(())
 }
 
-fn scratch(pager: &SharedPager<Files>, pages: u64) -> Outcome {
+fn scratch(pager: &Pager<Files>, pages: u64) -> Outcome {
     pager.io().open("scratch")?;
     for page in 0..pages {
         let mut page = pager.new_page(pager.io().number("scratch", page)?)?;
@@ -170,7 +170,7 @@ fn main() -> Outcome {
     let folder = std::env::args().nth(1).unwrap_or("files".into());
     let numbers = 100 * RUN;
     let files = Files::new(folder.as_ref(), numbers)?;
-    let pager = &SharedPager::new(&SharedConfig::new(numbers, SIZE, 256), files)?;
+    let pager = &Pager::new(&PagerConfig::new(numbers, SIZE, 256), files)?;
     let work = [("one", 100), ("two", 333), ("three", 640)];
     thread::scope(|scope| {
         let count = |(name, more)| move || count(pager, name, more);

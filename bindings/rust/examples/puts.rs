@@ -6,7 +6,7 @@
 //! changed and let go; the time of a latch alone is taken off. A copy is made to the same place of a
 //! page in a plain list of pages. Printed are nanoseconds, the least of the rounds, which other work on
 //! the machine changes least, and in brackets how many copies that is.
-use hojzmated::{PageMut, SharedConfig, SharedPager};
+use hojzmated::{PageMut, Pager, PagerConfig};
 use pages::Numbers;
 use std::error::Error;
 use std::hint::black_box;
@@ -69,8 +69,8 @@ fn changes(
     pages: u64,
     change: impl Fn(&mut PageMut<'_>, usize) -> hojzmated::Result<()>,
 ) -> Outcome<f64> {
-    let config = SharedConfig::new(pages, SIZE, pages as usize);
-    let pager = SharedPager::new(&config, Zeros)?;
+    let config = PagerConfig::new(pages, SIZE, pages as usize);
+    let pager = Pager::new(&config, Zeros)?;
     let none = timed(rounds, || {
         for (page, at) in turns(pages) {
             black_box((&mut pager.write(page)?, at));

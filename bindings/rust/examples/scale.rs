@@ -7,7 +7,7 @@
 //! each page once. Printed is the memory that the system tells, and what the pager tells of itself: when it
 //! was made, when its frames were full, and when as many pages are remembered as may be. Then the newest
 //! half of the frames is changed, and a checkpoint is timed; then a hundredth of these, and then nothing.
-use hojzmated::{PagerError, SharedConfig, SharedPager};
+use hojzmated::{PagerConfig, PagerError};
 use std::error::Error;
 use std::time::Instant;
 use std::{env, fs, io, thread};
@@ -18,7 +18,7 @@ mod zeros;
 
 const THREADS: u64 = 4;
 
-type Pager = SharedPager<Zeros>;
+type Pager = hojzmated::Pager<Zeros>;
 type Outcome = Result<(), Box<dyn Error + Send + Sync>>;
 
 /// Bytes of this program that are in memory.
@@ -83,12 +83,12 @@ fn main() -> Outcome {
     let parts = numbers.next().transpose()?.unwrap_or(64);
     let page_size = numbers.next().transpose()?.unwrap_or(64);
     let (frames, pages) = (parts * 65_536, parts as u64 * 1_048_576);
-    let config = SharedConfig {
+    let config = PagerConfig {
         parts,
-        ..SharedConfig::new(pages, page_size, frames)
+        ..PagerConfig::new(pages, page_size, frames)
     };
     let began = resident()?;
-    let pager = SharedPager::new(&config, Zeros)?;
+    let pager = Pager::new(&config, Zeros)?;
     println!("before: {began} bytes in memory");
     tell(&pager, "made")?;
     let look = |page| pager.read(page).map(drop);

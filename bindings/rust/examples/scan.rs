@@ -28,7 +28,8 @@
 //! memory of the pager, with a memory of eight times the frames and with one without end. The same is done
 //! with a `Pool`, which is purged after each 16 fixes: printed are the mean and the greatest time of a
 //! purge, and the most pages that one forgot.
-use hojzmated::{Config, Fixed, PageIo, Pool, ReadFault, SharedConfig, SharedPager, Stats};
+use hojzmated::core::{Config, Fixed, Pool};
+use hojzmated::{PageIo, Pager, PagerConfig, ReadFault, Stats};
 use std::cell::Cell;
 use std::error::Error;
 use std::fs::{File, remove_file};
@@ -41,7 +42,7 @@ use std::thread::{scope, sleep};
 use std::time::{Duration, Instant};
 
 type Outcome<T> = Result<T, Box<dyn Error + Send + Sync>>;
-type Shared = Arc<SharedPager<Arc<Pages>>>;
+type Shared = Arc<Pager<Arc<Pages>>>;
 
 const PAGES: u64 = 12_000;
 const SIZE: usize = 4096;
@@ -238,13 +239,13 @@ struct Run {
 
 /// Scans, with pages read ahead by so many threads, beside so many that look pages up.
 fn run(
-    config: &SharedConfig,
+    config: &PagerConfig,
     pages: Pages,
     (ahead, readers): (u64, usize),
     look_ups: u64,
     length: Duration,
 ) -> Outcome<Run> {
-    let pager = Arc::new(SharedPager::new(config, Arc::new(pages))?);
+    let pager = Arc::new(Pager::new(config, Arc::new(pages))?);
     let readers = pager.start_readers(readers)?;
     let (pager, counts) = (&pager, &Counts::default());
     scope(|threads| -> Outcome<()> {
@@ -270,8 +271,8 @@ fn run(
     })
 }
 
-fn settings() -> SharedConfig {
-    SharedConfig::with_parts(PAGES, SIZE, FRAMES, PARTS)
+fn settings() -> PagerConfig {
+    PagerConfig::with_parts(PAGES, SIZE, FRAMES, PARTS)
 }
 
 /// The pages that must be read for look-ups beside scans.
@@ -291,7 +292,7 @@ fn beside_look_ups(length: Duration) -> Outcome<()> {
         (1, 0, 8 * frames, "8 times"),
     ];
     for (k, correlated, retained, name) in rows {
-        let config = SharedConfig {
+        let config = PagerConfig {
             k,
             correlated,
             retained,
@@ -378,11 +379,11 @@ fn purges() -> Outcome<()> {
 
 /// Measures how long calls take, with this memory of pages that are away.
 fn calls(name: &str, retained: u64) -> Outcome<()> {
-    let config = SharedConfig {
+    let config = PagerConfig {
         retained,
-        ..SharedConfig::with_parts(MANY, 64, 1 << 16, 1)
+        ..PagerConfig::with_parts(MANY, 64, 1 << 16, 1)
     };
-    let pager = SharedPager::new(&config, Nothing)?;
+    let pager = Pager::new(&config, Nothing)?;
     let mut times = Vec::with_capacity(MANY as usize);
     for page in 0..MANY {
         let began = Instant::now();

@@ -1,14 +1,13 @@
-//! `Error`, the refusals of the library, and `Refused`, which returns a pass or a ticket with one.
+//! `Error`: the refusals of the library.
 use crate::sys;
 use std::fmt;
 use std::result;
 
-/// A refusal of a [`Pool`](crate::Pool). It changes nothing, except that 11, 12, 13 and 25 count as
+/// A refusal of a core, which is a [`Pool`](crate::core::Pool). It changes nothing, except that 11, 12, 13 and 25 count as
 /// calls. 17, 18 and 19 tell of the device, and come of a pager's faults alone.
 ///
 /// It is the error of calls that do not use the device: those of a `Pool` and of guards, and those
-/// that make a pager. A call of a [`Pager`](crate::Pager) or a
-/// [`SharedPager`](crate::SharedPager) that may use the device or the log has a
+/// that make a pager. A call of a [`Pager`](crate::Pager) that may use the device or the log has a
 /// [`PagerError`](crate::PagerError), which is a refusal or a fault of these.
 ///
 /// Each has the number of `hojzmated.h` and its text, which [`Display`](fmt::Display) shows, except
@@ -43,7 +42,7 @@ pub enum Error {
     /// 19: another page was found in the page's place in the file. A pager answers
     /// [`PagerError::WrongPage`](crate::PagerError::WrongPage), which names the page.
     WrongPage,
-    /// 20: the pool has answered nearly as many calls as [`Config::room`](crate::Config::room).
+    /// 20: the pool has answered nearly as many calls as [`Config::room`](crate::core::Config::room).
     /// What is left is kept for the passes and tickets that are out.
     TrailFull,
     /// 21: the clock would pass its end.
@@ -70,7 +69,7 @@ pub enum Error {
     /// 60, a number of this crate alone: bytes of the page are lent ([`PageBytes`]), and it is not
     /// written to.
     ///
-    /// [`PageBytes`]: crate::PageBytes
+    /// [`PageBytes`]: crate::core::PageBytes
     Lent,
     /// 61, a number of this crate alone: the program was linked with a library of another version,
     /// and no pool is made.
@@ -78,11 +77,11 @@ pub enum Error {
         /// The version of the library, as [`version`](crate::version) gives it.
         library: u32,
     },
-    /// 62, a number of this crate alone: the page of a [`SharedPager`](crate::SharedPager) has 524,288
+    /// 62, a number of this crate alone: the page of a [`Pager`](crate::Pager) has 524,288
     /// pins or shared latches, and gets no other guard before some of these are dropped.
     TooManyGuards,
     /// 72, a number of `hojzmated_pager.h`: the call would wait for a latch that its own thread has. It comes
-    /// of a [`SharedPager`](crate::SharedPager) that [notes them](crate::SharedConfig::notes_latches).
+    /// of a [`Pager`](crate::Pager) that [notes them](crate::PagerConfig::notes_latches).
     Deadlock,
     /// A number that a newer library has.
     Other(u16),
@@ -216,39 +215,6 @@ impl fmt::Display for Error {
 }
 
 impl std::error::Error for Error {}
-
-/// A refusal of a call that would have taken a pass or a ticket, which comes back. Where it was
-/// given it is still out.
-#[derive(Debug, PartialEq, Eq)]
-pub struct Refused<T> {
-    /// Why the call was refused.
-    pub error: Error,
-    /// The pass or ticket of the call.
-    pub token: T,
-}
-
-impl<T> Refused<T> {
-    /// Returns the token with the refusal of a call that would have taken it.
-    #[inline]
-    pub(crate) fn check<D>(done: Result<D>, token: T) -> Result<D, Refused<T>> {
-        done.map_err(|error| Refused { error, token })
-    }
-}
-
-/// Drops the token, which is still out where it was given.
-impl<T> From<Refused<T>> for Error {
-    fn from(refused: Refused<T>) -> Error {
-        refused.error
-    }
-}
-
-impl<T> fmt::Display for Refused<T> {
-    fn fmt(&self, f: &mut fmt::Formatter<'_>) -> fmt::Result {
-        self.error.fmt(f)
-    }
-}
-
-impl<T: fmt::Debug> std::error::Error for Refused<T> {}
 
 #[cfg(test)]
 mod tests {

@@ -5,13 +5,13 @@
 //! out before its log record is durable. `docs/C.md` of the repository says what is proved of the
 //! library, and what a caller has to keep to. This crate keeps to that.
 //!
-//! A [`SharedPager`] is for many threads at once, with latches on its pages. A [`Pager`] is for one
-//! thread at a time. Both have a device and a log. [`FilePages`] is a device that is ready: a page file,
-//! with a lock and checksums, to which the engine's [`Log`] is joined. Or both are the engine's own: four
-//! functions of [`PageIo`]. With a pager and such a type:
+//! A [`Pager`] is for many threads at once, or for one, with latches on its pages. It has a device and a
+//! log. [`FilePages`] is a device that is ready: a page file, with a lock and checksums, to which the
+//! engine's [`Log`] is joined. Or both are the engine's own: four functions of [`PageIo`]. With such a
+//! type:
 //!
 //! ```
-//! use hojzmated::{Config, PageIo, Pager, ReadFault};
+//! use hojzmated::{PageIo, Pager, PagerConfig, ReadFault};
 //! use std::fs::File;
 //! use std::io;
 //! use std::os::unix::fs::FileExt;
@@ -54,16 +54,16 @@
 //! # let (pages, log) = (scratch()?, scratch()?);
 //! // A file of 1,000 pages of 4,096 bytes, of which 64 are in memory.
 //! pages.set_len(1_000 * 4_096)?;
-//! let pager = Pager::new(&Config::new(1_000, 4_096, 64), Files { pages, log })?;
+//! let pager = Pager::new(&PagerConfig::new(1_000, 4_096, 64), Files { pages, log })?;
 //!
-//! // Client 0 changes page 7 under the log record 1. The guard keeps the page in its frame until it is dropped.
-//! let page = pager.fix(0, 7)?;
+//! // Page 7 is changed under the log record 1. Until the guard is dropped it stays in its frame.
+//! let mut page = pager.write(7)?; // nobody else looks at it meanwhile
 //! page.put(100, b"forty-two", 1)?;
-//! assert_eq!(page.bytes()?[100..105], *b"forty");
+//! assert_eq!(page.bytes()[100..105], *b"forty"); // in place, without a copy
 //! drop(page);
 //!
 //! // The log goes out before the page.
-//! pager.flush(0, 7)?;
+//! pager.flush(7)?;
 //! let mut found = [0; 109];
 //! pager.io().pages.read_exact_at(&mut found, 7 * 4_096)?;
 //! assert_eq!(found[..8], 1u64.to_le_bytes());
@@ -72,31 +72,13 @@
 //! # }
 //! ```
 //!
-//! [`PageGuard::bytes`] lends the page where it is, without a copy. What is lent stays as it is
-//! while the [`PageBytes`] is there: a write to that page is refused until then, and a program in
-//! which the page could leave its frame before does not compile. [`PageGuard::copy_to`] copies a
-//! part.
-//!
 //! A call of a pager that may use the device or the log fails with a [`PagerError`], which has the
 //! page or LSN and the fault, or a refusal of the pool. All other calls, also those of guards, fail
 //! with an [`Error`], which is such a refusal alone.
 //!
-//! An engine that reads and writes by its own means calls a [`Pool`]. That does no input or output,
-//! and says what is to be read or written by tickets, which may be kept while a mutex is open.
-//!
-//! Two threads do not use one pool at the same time:
-//!
-//! ```compile_fail,E0277
-//! fn is_sync<T: Sync>() {}
-//! is_sync::<hojzmated::Pool>();
-//! ```
-//!
-//! ```
-//! fn is_send<T: Send>() {}
-//! fn is_sync<T: Sync>() {}
-//! is_send::<hojzmated::Pool>();
-//! is_sync::<std::sync::Mutex<hojzmated::Pool>>();
-//! ```
+//! An engine that reads and writes by its own means calls a core itself, a [`Pool`](crate::core::Pool). That does no
+//! input or output, and says what is to be read or written by tickets, which may be kept while a mutex
+//! is open.
 #![deny(missing_docs, unsafe_op_in_unsafe_fn)]
 #![warn(
     clippy::undocumented_unsafe_blocks,
@@ -104,32 +86,33 @@
     clippy::expect_used
 )]
 
-mod config;
+pub mod core;
+mod counts;
 mod error;
+mod fault;
 mod files;
 mod image;
-mod lent;
-mod page;
+mod io;
 mod pager;
-mod pool;
 #[cfg(doctest)]
 mod refused;
-mod shared;
+mod renamed;
 mod sys;
 
-pub use config::Config;
-pub use error::{Error, Refused, Result};
+pub use counts::{Totals, UnsavedPage};
+pub use error::{Error, Result};
+pub use fault::{PagerError, ReadFault};
 pub use files::{Device, FileOptions, FilePages, Layout, Log, NoLog, OpenError, WithLog};
-pub use lent::PageBytes;
-pub use page::{PageGuard, Pass, ReadTicket, WriteTicket};
-pub use pager::{PageIo, Pager, PagerError, ReadFault};
-pub use pool::{Fixed, Flushed, Pool, PoolStats, Saved, Totals, UnsavedPage};
-pub use shared::{
-    Cleaner, OwnedMut, OwnedPin, OwnedRef, PageMut, PagePin, PageRef, Readers, SharedConfig,
-    SharedPager, Stats,
+pub use io::PageIo;
+pub use pager::{
+    Cleaner, OwnedMut, OwnedPin, OwnedRef, PageMut, PagePin, PageRef, Pager, PagerConfig, Readers,
+    Stats,
 };
 #[doc(hidden)]
-pub use shared::{Left, Missed, MissedAlone};
+pub use pager::{Left, Missed, MissedAlone};
+#[allow(deprecated)]
+#[doc(hidden)]
+pub use renamed::*;
 
 /// The version of the library below, as major * 10,000 + minor * 100 + patch.
 pub fn version() -> u32 {

@@ -2,7 +2,7 @@
 //! first one here with some lines added, and nightly compilers compare its error too.
 //!
 //! ```
-//! # use hojzmated::{Config, Fixed, Pool};
+//! # use hojzmated::core::{Config, Fixed, Pool};
 //! # fn main() -> hojzmated::Result<()> {
 //! let pool = Pool::new(&Config::new(8, 16, 2))?;
 //! let Fixed::Load { ticket, .. } = pool.fix(0, 3, &mut [0; 16])? else { return Ok(()) };
@@ -16,7 +16,7 @@
 //! The guard goes while its page is lent:
 //!
 //! ```compile_fail,E0505
-//! # use hojzmated::{Config, Fixed, Pool};
+//! # use hojzmated::core::{Config, Fixed, Pool};
 //! # fn main() -> hojzmated::Result<()> {
 //! # let pool = Pool::new(&Config::new(8, 16, 2))?;
 //! # let Fixed::Load { ticket, .. } = pool.fix(0, 3, &mut [0; 16])? else { return Ok(()) };
@@ -31,7 +31,7 @@
 //! It becomes a pass:
 //!
 //! ```compile_fail,E0505
-//! # use hojzmated::{Config, Fixed, Pool};
+//! # use hojzmated::core::{Config, Fixed, Pool};
 //! # fn main() -> hojzmated::Result<()> {
 //! # let pool = Pool::new(&Config::new(8, 16, 2))?;
 //! # let Fixed::Load { ticket, .. } = pool.fix(0, 3, &mut [0; 16])? else { return Ok(()) };
@@ -46,7 +46,7 @@
 //! It ends before what it lent, which goes out of the block:
 //!
 //! ```compile_fail,E0597
-//! # use hojzmated::{Config, Fixed, Pool};
+//! # use hojzmated::core::{Config, Fixed, Pool};
 //! # fn main() -> hojzmated::Result<()> {
 //! # let pool = Pool::new(&Config::new(8, 16, 2))?;
 //! # let Fixed::Load { ticket, .. } = pool.fix(0, 3, &mut [0; 16])? else { return Ok(()) };
@@ -63,12 +63,12 @@
 //! A function gives what it lent, without the guard:
 //!
 //! ```compile_fail,E0515
-//! # use hojzmated::{Config, Fixed, Pool};
+//! # use hojzmated::core::{Config, Fixed, Pool};
 //! # fn main() -> hojzmated::Result<()> {
 //! # let pool = Pool::new(&Config::new(8, 16, 2))?;
 //! # let Fixed::Load { ticket, .. } = pool.fix(0, 3, &mut [0; 16])? else { return Ok(()) };
 //! # let page = pool.end_read(ticket, &[7; 16])?;
-//! fn bytes_of(page: hojzmated::PageGuard<'_>) -> hojzmated::PageBytes<'_> {
+//! fn bytes_of(page: hojzmated::core::PageGuard<'_>) -> hojzmated::core::PageBytes<'_> {
 //!     page.bytes().unwrap()
 //! }
 //! # Ok(())
@@ -78,7 +78,7 @@
 //! The slice is used when the look is over:
 //!
 //! ```compile_fail,E0505
-//! # use hojzmated::{Config, Fixed, Pool};
+//! # use hojzmated::core::{Config, Fixed, Pool};
 //! # fn main() -> hojzmated::Result<()> {
 //! # let pool = Pool::new(&Config::new(8, 16, 2))?;
 //! # let Fixed::Load { ticket, .. } = pool.fix(0, 3, &mut [0; 16])? else { return Ok(()) };
@@ -94,7 +94,7 @@
 //! The same, with no name for the look:
 //!
 //! ```compile_fail,E0716
-//! # use hojzmated::{Config, Fixed, Pool};
+//! # use hojzmated::core::{Config, Fixed, Pool};
 //! # fn main() -> hojzmated::Result<()> {
 //! # let pool = Pool::new(&Config::new(8, 16, 2))?;
 //! # let Fixed::Load { ticket, .. } = pool.fix(0, 3, &mut [0; 16])? else { return Ok(()) };
@@ -108,7 +108,7 @@
 //! What is lent is written to:
 //!
 //! ```compile_fail,E0594
-//! # use hojzmated::{Config, Fixed, Pool};
+//! # use hojzmated::core::{Config, Fixed, Pool};
 //! # fn main() -> hojzmated::Result<()> {
 //! # let pool = Pool::new(&Config::new(8, 16, 2))?;
 //! # let Fixed::Load { ticket, .. } = pool.fix(0, 3, &mut [0; 16])? else { return Ok(()) };
@@ -122,7 +122,7 @@
 //! The pool goes:
 //!
 //! ```compile_fail,E0505
-//! # use hojzmated::{Config, Fixed, Pool};
+//! # use hojzmated::core::{Config, Fixed, Pool};
 //! # fn main() -> hojzmated::Result<()> {
 //! # let pool = Pool::new(&Config::new(8, 16, 2))?;
 //! # let Fixed::Load { ticket, .. } = pool.fix(0, 3, &mut [0; 16])? else { return Ok(()) };
@@ -138,7 +138,7 @@
 //! It moves to another thread:
 //!
 //! ```compile_fail,E0505
-//! # use hojzmated::{Config, Fixed, Pool};
+//! # use hojzmated::core::{Config, Fixed, Pool};
 //! # fn main() -> hojzmated::Result<()> {
 //! # let pool = Pool::new(&Config::new(8, 16, 2))?;
 //! # let Fixed::Load { ticket, .. } = pool.fix(0, 3, &mut [0; 16])? else { return Ok(()) };
@@ -154,7 +154,7 @@
 //! The mutex opens:
 //!
 //! ```compile_fail,E0505
-//! # use hojzmated::{Config, Fixed, Pool};
+//! # use hojzmated::core::{Config, Fixed, Pool};
 //! # fn main() -> hojzmated::Result<()> {
 //! # let pool = Pool::new(&Config::new(8, 16, 2))?;
 //! # let Fixed::Load { ticket, .. } = pool.fix(0, 3, &mut [0; 16])? else { return Ok(()) };
@@ -172,7 +172,7 @@
 //! A pass is given back while its page is lent:
 //!
 //! ```compile_fail,E0505
-//! # use hojzmated::{Config, Fixed, Pool};
+//! # use hojzmated::core::{Config, Fixed, Pool};
 //! # fn main() -> hojzmated::Result<()> {
 //! # let pool = Pool::new(&Config::new(8, 16, 2))?;
 //! # let Fixed::Load { ticket, .. } = pool.fix(0, 3, &mut [0; 16])? else { return Ok(()) };
@@ -187,7 +187,7 @@
 //! It goes into a guard:
 //!
 //! ```compile_fail,E0505
-//! # use hojzmated::{Config, Fixed, Pool};
+//! # use hojzmated::core::{Config, Fixed, Pool};
 //! # fn main() -> hojzmated::Result<()> {
 //! # let pool = Pool::new(&Config::new(8, 16, 2))?;
 //! # let Fixed::Load { ticket, .. } = pool.fix(0, 3, &mut [0; 16])? else { return Ok(()) };
@@ -202,7 +202,7 @@
 //! It makes way for another pass:
 //!
 //! ```compile_fail,E0506
-//! # use hojzmated::{Config, Fixed, Pool};
+//! # use hojzmated::core::{Config, Fixed, Pool};
 //! # fn main() -> hojzmated::Result<()> {
 //! # let pool = Pool::new(&Config::new(8, 16, 2))?;
 //! # let Fixed::Load { ticket, .. } = pool.fix(0, 3, &mut [0; 16])? else { return Ok(()) };
@@ -219,7 +219,7 @@
 //! A pass is used twice:
 //!
 //! ```compile_fail,E0382
-//! # use hojzmated::{Config, Fixed, Pool};
+//! # use hojzmated::core::{Config, Fixed, Pool};
 //! # fn main() -> hojzmated::Result<()> {
 //! # let pool = Pool::new(&Config::new(8, 16, 2))?;
 //! # let Fixed::Load { ticket, .. } = pool.fix(0, 3, &mut [0; 16])? else { return Ok(()) };
@@ -233,35 +233,35 @@
 //! The look goes to another thread, or is used by one, which would count it there:
 //!
 //! ```compile_fail,E0277
-//! # use hojzmated::{Config, Fixed, Pool};
+//! # use hojzmated::core::{Config, Fixed, Pool};
 //! # fn main() -> hojzmated::Result<()> {
 //! # let pool = Pool::new(&Config::new(8, 16, 2))?;
 //! # let Fixed::Load { ticket, .. } = pool.fix(0, 3, &mut [0; 16])? else { return Ok(()) };
 //! # let page = pool.end_read(ticket, &[7; 16])?;
 //! fn is_send<T: Send>() {}
-//! is_send::<hojzmated::PageBytes<'static>>();
+//! is_send::<hojzmated::core::PageBytes<'static>>();
 //! # Ok(())
 //! # }
 //! ```
 //!
 //! ```compile_fail,E0277
-//! # use hojzmated::{Config, Fixed, Pool};
+//! # use hojzmated::core::{Config, Fixed, Pool};
 //! # fn main() -> hojzmated::Result<()> {
 //! # let pool = Pool::new(&Config::new(8, 16, 2))?;
 //! # let Fixed::Load { ticket, .. } = pool.fix(0, 3, &mut [0; 16])? else { return Ok(()) };
 //! # let page = pool.end_read(ticket, &[7; 16])?;
 //! fn is_sync<T: Sync>() {}
-//! is_sync::<hojzmated::PageBytes<'static>>();
+//! is_sync::<hojzmated::core::PageBytes<'static>>();
 //! # Ok(())
 //! # }
 //! ```
 //!
-//! # Guards of a shared pager
+//! # Guards of a pager
 //!
 //! ```
-//! # use hojzmated::{PageIo, PagerError, SharedConfig, SharedPager};
+//! # use hojzmated::{PageIo, PagerError, PagerConfig, Pager};
 //! # fn work<F: PageIo>(io: F) -> Result<(), PagerError> {
-//! let pager = SharedPager::new(&SharedConfig::new(8, 16, 2), io)?;
+//! let pager = Pager::new(&PagerConfig::new(8, 16, 2), io)?;
 //! let pin = pager.pin(3)?;
 //! let mut page = pin.write();
 //! page.put(0, &[1], 1)?;
@@ -273,9 +273,9 @@
 //! The pin goes while its page is under a latch:
 //!
 //! ```compile_fail,E0505
-//! # use hojzmated::{PageIo, PagerError, SharedConfig, SharedPager};
+//! # use hojzmated::{PageIo, PagerError, PagerConfig, Pager};
 //! # fn work<F: PageIo>(io: F) -> Result<(), PagerError> {
-//! # let pager = SharedPager::new(&SharedConfig::new(8, 16, 2), io)?;
+//! # let pager = Pager::new(&PagerConfig::new(8, 16, 2), io)?;
 //! let pin = pager.pin(3)?;
 //! let page = pin.read();
 //! drop(pin);
@@ -287,9 +287,9 @@
 //! The latch goes while somebody looks:
 //!
 //! ```compile_fail,E0505
-//! # use hojzmated::{PageIo, PagerError, SharedConfig, SharedPager};
+//! # use hojzmated::{PageIo, PagerError, PagerConfig, Pager};
 //! # fn work<F: PageIo>(io: F) -> Result<(), PagerError> {
-//! # let pager = SharedPager::new(&SharedConfig::new(8, 16, 2), io)?;
+//! # let pager = Pager::new(&PagerConfig::new(8, 16, 2), io)?;
 //! let page = pager.read(3)?;
 //! let bytes = &page[..4];
 //! drop(page);
@@ -301,9 +301,9 @@
 //! A write comes while somebody looks:
 //!
 //! ```compile_fail,E0502
-//! # use hojzmated::{PageIo, PagerError, SharedConfig, SharedPager};
+//! # use hojzmated::{PageIo, PagerError, PagerConfig, Pager};
 //! # fn work<F: PageIo>(io: F) -> Result<(), PagerError> {
-//! # let pager = SharedPager::new(&SharedConfig::new(8, 16, 2), io)?;
+//! # let pager = Pager::new(&PagerConfig::new(8, 16, 2), io)?;
 //! let mut page = pager.write(3)?;
 //! let bytes = page.bytes();
 //! page.put(0, &[1], 1)?;
@@ -315,9 +315,9 @@
 //! The bytes that are put are those of the page itself:
 //!
 //! ```compile_fail,E0502
-//! # use hojzmated::{PageIo, PagerError, SharedConfig, SharedPager};
+//! # use hojzmated::{PageIo, PagerError, PagerConfig, Pager};
 //! # fn work<F: PageIo>(io: F) -> Result<(), PagerError> {
-//! # let pager = SharedPager::new(&SharedConfig::new(8, 16, 2), io)?;
+//! # let pager = Pager::new(&PagerConfig::new(8, 16, 2), io)?;
 //! let mut page = pager.write(3)?;
 //! page.put(0, &page.bytes()[8..], 1)?;
 //! # Ok(())
@@ -327,9 +327,9 @@
 //! The pager goes while a page is pinned:
 //!
 //! ```compile_fail,E0505
-//! # use hojzmated::{PageIo, PagerError, SharedConfig, SharedPager};
+//! # use hojzmated::{PageIo, PagerError, PagerConfig, Pager};
 //! # fn work<F: PageIo>(io: F) -> Result<(), PagerError> {
-//! # let pager = SharedPager::new(&SharedConfig::new(8, 16, 2), io)?;
+//! # let pager = Pager::new(&PagerConfig::new(8, 16, 2), io)?;
 //! let page = pager.read(3)?;
 //! drop(pager);
 //! assert_eq!(page[0], 1);
@@ -356,6 +356,6 @@
 //! fn is_sync<T: Sync>() {}
 //! is_send::<hojzmated::PagePin<'static>>();
 //! is_sync::<hojzmated::PageRef<'static>>();
-//! is_send::<hojzmated::SharedPager<()>>();
-//! is_sync::<hojzmated::SharedPager<()>>();
+//! is_send::<hojzmated::Pager<()>>();
+//! is_sync::<hojzmated::Pager<()>>();
 //! ```

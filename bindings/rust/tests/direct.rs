@@ -3,7 +3,7 @@
     target_os = "linux",
     any(target_arch = "x86_64", target_arch = "aarch64")
 ))]
-use hojzmated::{Config, PageIo, Pager, ReadFault, SharedConfig, SharedPager};
+use hojzmated::{PageIo, Pager, PagerConfig, ReadFault};
 use std::fs::{File, remove_file};
 use std::io;
 use std::os::unix::fs::{FileExt, OpenOptionsExt};
@@ -91,12 +91,12 @@ fn has_all(file: &Direct, path: &Path) -> bool {
 struct Aligned([u8; SIZE]);
 
 #[test]
-fn shared_pager_over_a_direct_file() {
-    let Some((file, path)) = direct_file("shared") else {
+fn pager_over_a_direct_file() {
+    let Some((file, path)) = direct_file("pager") else {
         println!("left out: no file system here has O_DIRECT");
         return;
     };
-    let pager = SharedPager::new(&SharedConfig::new(PAGES, SIZE, 16), file).unwrap();
+    let pager = Pager::new(&PagerConfig::new(PAGES, SIZE, 16), file).unwrap();
     let pager = Arc::new(pager);
     for page in 0..PAGES {
         let mut page = pager.write(page).unwrap();
@@ -111,20 +111,5 @@ fn shared_pager_over_a_direct_file() {
     }
     drop(readers);
     let pager = Arc::into_inner(pager).unwrap();
-    assert!(has_all(&pager.into_io(), &path));
-}
-
-#[test]
-fn pager_over_a_direct_file() {
-    let Some((file, path)) = direct_file("owner") else {
-        println!("left out: no file system here has O_DIRECT");
-        return;
-    };
-    let pager = Pager::new(&Config::new(PAGES, SIZE, 16), file).unwrap();
-    for number in 0..PAGES {
-        let page = pager.fix(0, number).unwrap();
-        page.put(0, &[number as u8; SIZE], 0).unwrap();
-    }
-    pager.checkpoint(0).unwrap();
     assert!(has_all(&pager.into_io(), &path));
 }

@@ -1,7 +1,9 @@
 //! Pages lent in place: which writes are refused meanwhile, and that what is lent stays as it is.
-use hojzmated::{
-    Config, Error, Fixed, Flushed, PageBytes, PageGuard, Pool, ReadFault, Refused, Saved,
+use hojzmated::core::{
+    Config, Fixed, Flushed, PageBytes, PageGuard, Pool, ReadTicket, Refused, Saved, WriteTicket,
 };
+use hojzmated::{Error, ReadFault};
+use std::cell::RefCell;
 use std::panic::{AssertUnwindSafe, catch_unwind, resume_unwind};
 use std::sync::Mutex;
 use std::{mem, thread};
@@ -168,7 +170,7 @@ fn pass_with_the_numbers_of_another() {
 }
 
 /// Asks for page 1, which has to be read.
-fn ticket_to_read(pool: &Pool) -> hojzmated::ReadTicket {
+fn ticket_to_read(pool: &Pool) -> ReadTicket {
     match pool.fix(0, 1, &mut [0; 16]) {
         Ok(Fixed::Load { ticket, .. }) => ticket,
         other => panic!("{other:?}"),
@@ -176,7 +178,7 @@ fn ticket_to_read(pool: &Pool) -> hojzmated::ReadTicket {
 }
 
 /// Writes to page 1 and asks that it be written out.
-fn ticket_to_write(pool: &Pool) -> hojzmated::WriteTicket {
+fn ticket_to_write(pool: &Pool) -> WriteTicket {
     fix(pool, 1).put(0, b"a", 0).unwrap();
     match pool.flush(0, 1, &mut [0; 16]) {
         Ok(Flushed::WriteFirst(ticket)) => ticket,
@@ -261,6 +263,111 @@ fn from_one_page_to_another() {
     assert_eq!(*third.bytes().unwrap(), *bytes);
     third.put(0, b"third", 0).unwrap();
     assert_eq!(bytes[..11], *b"from page 1");
+}
+
+/// A core with a device in memory, which has sixteen pages, and a log that is always durable.
+struct Engine {
+    pool: Pool,
+    pages: RefCell<[[u8; 16]; 16]>,
+}
+
+impl Engine {
+    fn new(frames: usize) -> Engine {
+        Engine {
+            pool: pool(frames),
+            pages: RefCell::new([[0; 16]; 16]),
+        }
+    }
+
+    fn write_out(&self, ticket: WriteTicket, image: [u8; 16]) {
+        self.pages.borrow_mut()[ticket.page() as usize] = image;
+        assert!(self.pool.end_write(ticket).is_ok());
+    }
+
+    fn fix(&self, page: u64) -> PageGuard<'_> {
+        self.pool.tick(0, 1).unwrap();
+        let mut image = [0; 16];
+        loop {
+            match self.pool.fix(0, page, &mut image) {
+                Ok(Fixed::Hit(guard)) => return guard,
+                Ok(Fixed::Load { ticket, .. }) => {
+                    let read = self.pages.borrow()[page as usize];
+                    return self.pool.end_read(ticket, &read).unwrap();
+                }
+                Ok(Fixed::WriteFirst(ticket)) => self.write_out(ticket, image),
+                Err(Error::NeedLog { lsn }) => self.pool.mark(0, lsn).unwrap(),
+                Err(error) => panic!("{error}"),
+            }
+        }
+    }
+
+    fn flush(&self, page: u64) {
+        let mut image = [0; 16];
+        loop {
+            match self.pool.flush(0, page, &mut image) {
+                Ok(Flushed::WriteFirst(ticket)) => self.write_out(ticket, image),
+                Ok(Flushed::Clean | Flushed::Absent) => return,
+                Err(Error::NeedLog { lsn }) => self.pool.mark(0, lsn).unwrap(),
+                Err(error) => panic!("{error}"),
+            }
+        }
+    }
+
+    /// Uses a page: the lent ones are not written to, and each has the bytes that it had to.
+    fn step(&self, newest: &mut [[u8; 16]; 16], lent: &[u64], numbers: &mut Numbers) {
+        let number = numbers.below(16);
+        let page = self.fix(number);
+        assert_eq!(*page.bytes().unwrap(), newest[number as usize]);
+        if numbers.below(2) == 0 {
+            let (at, byte) = (numbers.below(16) as usize, numbers.below(256) as u8);
+            let told = page.put(at, &[byte], numbers.below(100));
+            if lent.contains(&number) {
+                assert_eq!(told, Err(Error::Lent));
+            } else {
+                told.unwrap();
+                newest[number as usize][at] = byte;
+            }
+        }
+        if numbers.below(8) == 0 {
+            self.flush(numbers.below(16));
+        }
+    }
+}
+
+/// Numbers that look random, the same ones each time.
+struct Numbers(u64);
+
+impl Numbers {
+    fn below(&mut self, end: u64) -> u64 {
+        let state = self.0;
+        self.0 = state
+            .wrapping_mul(6_364_136_223_846_793_005)
+            .wrapping_add(1_442_695_040_888_963_407);
+        (self.0 >> 33) % end
+    }
+}
+
+// Two pages are lent, while others are loaded, written to, written out and replaced in the frames
+// that are left.
+#[test]
+fn random_walk_beside_lent_pages() {
+    let engine = Engine::new(4);
+    let mut newest = [[0; 16]; 16];
+    let mut numbers = Numbers(1);
+    for _ in 0..500 {
+        let lent = [numbers.below(16), numbers.below(16)];
+        let guards = lent.map(|number| engine.fix(number));
+        let looks = guards.each_ref().map(|page| page.bytes().unwrap());
+        let before = lent.map(|number| newest[number as usize]);
+        for _ in 0..20 {
+            engine.step(&mut newest, &lent, &mut numbers);
+            assert!(looks.iter().zip(&before).all(|(look, it)| **look == *it));
+        }
+    }
+    (0..16).for_each(|page| engine.flush(page));
+    let totals = engine.pool.totals();
+    assert!(totals.hits > 0 && totals.evictions > 0 && totals.writes > 0);
+    assert_eq!(engine.pages.into_inner(), newest);
 }
 
 // The slice goes to other threads, while this one loads and writes other pages.

@@ -3,9 +3,9 @@
 //! was written last.
 //!
 //! `HOJZMATED_SOAK_SECONDS` says for how long, which is 2 seconds else.
-#[path = "shared/engine.rs"]
+#[path = "pager/engine.rs"]
 mod engine;
-#[path = "shared/faulty.rs"]
+#[path = "pager/faulty.rs"]
 mod faulty;
 
 use engine::{Engine, Settings, Told};

@@ -4,9 +4,9 @@
 //! numbers, which are others each time else. The memory of the program is told each minute, or each
 //! quarter of a time below four minutes. From the first minute on it does not grow by more than a
 //! twentieth. The program ends at the first thing that is wrong, whichever thread finds it.
-#[path = "shared/engine.rs"]
+#[path = "pager/engine.rs"]
 mod engine;
-#[path = "shared/faulty.rs"]
+#[path = "pager/faulty.rs"]
 mod faulty;
 
 use engine::{Engine, Settings, Told};

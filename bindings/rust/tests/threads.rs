@@ -1,8 +1,6 @@
-//! Engines of several threads. In the first the pool is under a mutex that is open while the device
-//! works; in the second a pager is under one.
-use hojzmated::{Config, Error, Fixed, Flushed, PageIo, Pager, Pass, Pool, ReadFault, Saved};
-use std::cell::RefCell;
-use std::io;
+//! An engine of several threads over a core: it is under a mutex that is open while the device works.
+use hojzmated::Error;
+use hojzmated::core::{Config, Fixed, Flushed, Pass, Pool, ReadTicket, Saved, WriteTicket};
 use std::sync::{Mutex, MutexGuard};
 use std::thread;
 
@@ -76,8 +74,8 @@ impl Shared {
 /// What is to be done with the mutex open.
 enum Step {
     Done(Pass),
-    Read(hojzmated::ReadTicket),
-    Write(hojzmated::WriteTicket),
+    Read(ReadTicket),
+    Write(WriteTicket),
     Wait,
 }
 
@@ -126,7 +124,7 @@ impl Engine {
 }
 
 /// Writes a page out with the mutex open. It is saved then, unless a thread wrote to it meanwhile.
-fn write_out(shared: &Shared, ticket: hojzmated::WriteTicket, image: &[u8]) {
+fn write_out(shared: &Shared, ticket: WriteTicket, image: &[u8]) {
     let (page, lsn) = (ticket.page(), ticket.lsn());
     assert_eq!(words(image)[0], lsn, "the LSN in the image of page {page}");
     shared.on_device(page).copy_from_slice(image);
@@ -138,7 +136,7 @@ fn write_out(shared: &Shared, ticket: hojzmated::WriteTicket, image: &[u8]) {
 }
 
 /// Reads a page with the mutex open.
-fn read_in(shared: &Shared, ticket: hojzmated::ReadTicket, image: &mut [u8]) -> Pass {
+fn read_in(shared: &Shared, ticket: ReadTicket, image: &mut [u8]) -> Pass {
     let page = ticket.page();
     image.copy_from_slice(shared.on_device(page).as_slice());
     let engine = shared.lock();
@@ -202,54 +200,4 @@ fn engine_with_the_mutex_open_while_the_device_works() {
     assert_eq!(totals.hits + totals.faults, u64::from(THREADS) * ROUNDS);
     assert!(totals.hits > 0 && totals.evictions > 0 && totals.writes > 0);
     assert_eq!(totals.failed, 0);
-}
-
-/// Pages in memory, and how far the log is durable.
-struct Memory(RefCell<Vec<u8>>);
-
-impl PageIo for Memory {
-    fn read_page(&self, page: u64, image: &mut [u8]) -> Result<(), ReadFault> {
-        let at = page as usize * SIZE;
-        image.copy_from_slice(&self.0.borrow()[at..at + SIZE]);
-        Ok(())
-    }
-
-    fn write_page(&self, page: u64, image: &mut [u8], _lsn: u64) -> io::Result<()> {
-        let at = page as usize * SIZE;
-        self.0.borrow_mut()[at..at + SIZE].copy_from_slice(image);
-        Ok(())
-    }
-
-    fn make_log_durable(&self, _lsn: u64) -> io::Result<()> {
-        Ok(())
-    }
-
-    fn sync(&self) -> io::Result<()> {
-        Ok(())
-    }
-}
-
-#[test]
-fn pager_under_a_mutex() {
-    let memory = Memory(RefCell::new(vec![0; PAGES as usize * SIZE]));
-    let pager = Mutex::new(Pager::new(&config(), memory).unwrap());
-    thread::scope(|threads| {
-        for client in 0..THREADS {
-            let pager = &pager;
-            threads.spawn(move || {
-                let mut state = u64::from(client) + 1;
-                for lsn in 1..=ROUNDS {
-                    let pager = pager.lock().unwrap();
-                    let page = pager.fix(client, next(&mut state)).unwrap();
-                    let [_, count] = words(&page.bytes().unwrap());
-                    page.put(0, &bytes_of([lsn, count + 1]), lsn).unwrap();
-                }
-            });
-        }
-    });
-    let pager = pager.into_inner().unwrap();
-    pager.flush_all(0).unwrap();
-    let pages = pager.into_io().0.into_inner();
-    let sum: u64 = pages.chunks(SIZE).map(|page| words(page)[1]).sum();
-    assert_eq!(sum, u64::from(THREADS) * ROUNDS);
 }

@@ -8,7 +8,7 @@ use Rattle.bp_cli.specs.declared.ending.Ending.TheVariants as ending
 
 -- the version of the program
 abbrev pub version : List ℕ
-version = codes "0.12.0"
+version = codes "0.13.0"
 
 abbrev pub message_of : Ending → List ℕ
 message_of (ending.Help text) = string_bytes text

@@ -10,7 +10,7 @@ use bp_trace::{InputFault, TraceFault};
 use std::io::{ErrorKind, Write};
 use std::{fmt, io};
 
-pub const VERSION: &str = "0.12.0";
+pub const VERSION: &str = "0.13.0";
 
 /// How the program ends where it makes no report. `Display` prints its message.
 #[derive(Drop)]

@@ -32,7 +32,7 @@ const NO_CORE: u16 = 50;
 /// The handle has a core already.
 const HAS_CORE: u16 = 51;
 
-const VERSION: u32 = 1200;
+const VERSION: u32 = 1300;
 
 /// Returns 0, or the number of the refusal.
 fn code<T>(answer: &Result<T, Refusal>) -> u16
@@ -75,7 +75,7 @@ fn boxed(alloc: Global, config: &HzConfig) -> Result<Box<Pool, Global>, Refusal>
 /// Returns the version of the library: major * 10,000 + minor * 100 + patch.
 #[unsafe(no_mangle)]
 pub extern "C" fn proved_hz_version() -> u32
-    ensures { result ≡ 1200 }
+    ensures { result ≡ 1300 }
 {
     VERSION
 }

@@ -1,7 +1,7 @@
 //! The pager of `hojzmated` that many threads share, for C: the calls of `hojzmated_pager.h`, which
 //! says what each does.
 //!
-//! Each call checks its pointers, makes the call of [`SharedPager`], and turns what comes of it into
+//! Each call checks its pointers, makes the call of [`hojzmated::Pager`], and turns what comes of it into
 //! a number. No panic leaves it. What a thread has fixed is in [`held`].
 #![allow(non_camel_case_types)]
 // The header has what each call requires.
@@ -28,7 +28,7 @@ use abi::*;
 use device::{Callbacks, Device, PageFile, is_inside, with_scratch};
 use fault::{Refusal, refusal, refusal_of, refused_at};
 use held::Held;
-use hojzmated::{Error, Left, Missed, MissedAlone, PagerError, SharedConfig, SharedPager};
+use hojzmated::{Error, Left, Missed, MissedAlone, PagerConfig, PagerError};
 use std::any::Any;
 use std::ffi::{c_char, c_int};
 use std::panic::{AssertUnwindSafe, catch_unwind};
@@ -36,7 +36,7 @@ use std::time::Duration;
 use std::{ptr, slice};
 
 /// The pager behind a handle.
-pub type Pager = SharedPager<Device>;
+pub type Pager = hojzmated::Pager<Device>;
 
 type Outcome<T = ()> = Result<T, Refusal>;
 
@@ -140,13 +140,13 @@ fn period(field: u64, default: u64) -> u64 {
 }
 
 impl hz_pager_config {
-    fn settings(&self, pages: u64) -> SharedConfig {
+    fn settings(&self, pages: u64) -> PagerConfig {
         let (page_size, frames) = (self.page_size, self.frames);
         let default = match self.parts {
-            0 => SharedConfig::new(pages, page_size, frames),
-            parts => SharedConfig::with_parts(pages, page_size, frames, parts),
+            0 => PagerConfig::new(pages, page_size, frames),
+            parts => PagerConfig::with_parts(pages, page_size, frames, parts),
         };
-        SharedConfig {
+        PagerConfig {
             correlated: period(self.correlated, default.correlated),
             retained: period(self.retained, default.retained),
             k: or(self.k, default.k),
@@ -161,7 +161,7 @@ impl hz_pager_config {
 }
 
 /// Makes a pager in a handle.
-fn make(config: &SharedConfig, device: Device, handle: Place<hz_pager>) -> Outcome {
+fn make(config: &PagerConfig, device: Device, handle: Place<hz_pager>) -> Outcome {
     let mut place = Vec::new();
     let room = place.try_reserve_exact(1);
     room.map_err(|_| Error::OutOfMemory)?;

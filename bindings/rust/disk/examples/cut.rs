@@ -1,6 +1,6 @@
 //! Cuts the power of an engine at each of its requests. The engine counts: each step has a record in a
 //! log, and the number in a page.
-use hojzmated::{PagerError, SharedConfig, SharedPager};
+use hojzmated::{Pager, PagerConfig, PagerError};
 use hojzmated_disk::{Disk, DiskPages, Fault};
 use std::os::unix::fs::FileExt;
 
@@ -21,7 +21,7 @@ fn cut_each<T>(work: impl Fn(&Disk) -> T, look: impl Fn(&Disk, T)) -> u64 {
     0
 }
 
-fn step(pager: &SharedPager<DiskPages>, number: u64) -> Result<(), PagerError> {
+fn step(pager: &Pager<DiskPages>, number: u64) -> Result<(), PagerError> {
     let (bytes, log) = (number.to_le_bytes(), &pager.io().log);
     let fault = |source| PagerError::Log {
         lsn: number,
@@ -37,8 +37,8 @@ fn step(pager: &SharedPager<DiskPages>, number: u64) -> Result<(), PagerError> {
 
 /// Gives the last step that was acknowledged.
 fn count(disk: &Disk) -> u64 {
-    let config = SharedConfig::new(8, 512, 4);
-    let Ok(pager) = SharedPager::new(&config, disk.pages("pages", "log")) else {
+    let config = PagerConfig::new(8, 512, 4);
+    let Ok(pager) = Pager::new(&config, disk.pages("pages", "log")) else {
         return 0;
     };
     (1..100)

@@ -10,7 +10,7 @@
 //! at each of its requests:
 //!
 //! ```
-//! use hojzmated::{Config, Pager};
+//! use hojzmated::{Pager, PagerConfig};
 //! use hojzmated_disk::{Disk, Fault};
 //!
 //! /// The engine: it puts a number into page 0, as often as its disk lets it. Gives the last one that
@@ -18,11 +18,11 @@
 //! fn count(disk: &Disk) -> Option<u8> {
 //!     let pages = disk.pages("pages", "log");
 //!     pages.pages.set_len(16 * 512).ok()?;
-//!     let pager = Pager::new(&Config::new(16, 512, 4), pages).ok()?;
+//!     let pager = Pager::new(&PagerConfig::new(16, 512, 4), pages).ok()?;
 //!     let mut kept = None;
 //!     for number in 1..10 {
-//!         pager.fix(0, 0).ok()?.put(0, &[number], 0).ok()?;
-//!         match pager.checkpoint(0) {
+//!         pager.write(0).ok()?.put(0, &[number], 0).ok()?;
+//!         match pager.checkpoint() {
 //!             Ok(_) => kept = Some(number),
 //!             Err(_) => break,
 //!         }

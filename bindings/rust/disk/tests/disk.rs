@@ -1,5 +1,5 @@
 //! What a disk keeps, and what it loses.
-use hojzmated::{PagerError, SharedConfig, SharedPager};
+use hojzmated::{Pager, PagerConfig, PagerError};
 use hojzmated_disk::{Disk, DiskFile, Fault, SECTOR};
 use std::collections::BTreeSet;
 use std::io::ErrorKind;
@@ -308,7 +308,7 @@ fn a_pager_over_it_keeps_what_a_checkpoint_wrote() {
         let disk = Disk::new(seed);
         let files = disk.pages("pages", "log");
         files.pages.set_len(16 * 512).unwrap();
-        let pager = SharedPager::new(&SharedConfig::new(16, 512, 4), files).unwrap();
+        let pager = Pager::new(&PagerConfig::new(16, 512, 4), files).unwrap();
         for page in 0..16 {
             pager.write(page).unwrap().put(0, &[1], 1 + page).unwrap();
         }
@@ -333,7 +333,7 @@ fn a_log_whose_sync_failed_is_never_durable() {
     let files = disk.pages("pages", "log");
     files.pages.set_len(16 * 512).unwrap();
     files.log.write_all_at(&[5; 8], 0).unwrap();
-    let pager = SharedPager::new(&SharedConfig::new(16, 512, 4), files).unwrap();
+    let pager = Pager::new(&PagerConfig::new(16, 512, 4), files).unwrap();
     pager.write(3).unwrap().put(0, &[1], 5).unwrap();
     disk.set_fault(Some(Fault::Sync(1)));
     for _ in 0..3 {

@@ -1,4 +1,4 @@
-//! Tries every interleaving of the protocols by which the threads of a shared pager take latches and frames, and
+//! Tries every interleaving of the protocols by which the threads of a pager take latches and frames, and
 //! share syncs.
 //! README.md says what is tried, and which lines of the pager each step stands for.
 mod explore;
@@ -9,7 +9,7 @@ mod runs;
 mod syncs;
 // What the pager runs. Some of its functions are of no use here.
 #[allow(dead_code)]
-#[path = "../../src/shared/word.rs"]
+#[path = "../../src/pager/word.rs"]
 mod word;
 
 use runs::{Run, Size};

@@ -95,7 +95,7 @@ impl Log for NoLog {
 }
 
 /// A device and a log, which together are what a pager takes. [`Device::with_log`] makes it, and the engine
-/// finds both in [`SharedPager::io`](crate::SharedPager::io).
+/// finds both in [`Pager::io`](crate::Pager::io).
 #[derive(Clone, Debug)]
 pub struct WithLog<D, L> {
     /// Where the pages are.

@@ -2,7 +2,7 @@
 use super::lock::Lock;
 use super::{Device, FileOptions, Layout, OpenError};
 use crate::image::Image;
-use crate::{ReadFault, SharedConfig};
+use crate::{PagerConfig, ReadFault};
 use std::fs::File;
 use std::ops::{Deref, DerefMut};
 use std::os::unix::fs::FileExt;
@@ -14,7 +14,7 @@ use std::{fmt, io};
 /// joined by [`with_log`](Device::with_log). [`FileOptions`](crate::FileOptions) opens one.
 ///
 /// ```
-/// use hojzmated::{Device, FileOptions, Layout, Log, SharedPager};
+/// use hojzmated::{Device, FileOptions, Layout, Log, Pager};
 /// use std::fs::File;
 /// use std::io;
 /// use std::sync::atomic::{AtomicBool, Ordering};
@@ -42,7 +42,7 @@ use std::{fmt, io};
 /// let options = FileOptions::new(4064).layout(Layout::Checked).grown_to(1_000);
 /// let pages = options.create(folder.join("pages"))?;
 /// let log = EngineLog { file: File::create(folder.join("log"))?, is_lost: false.into() };
-/// let pager = SharedPager::new(&pages.config(64), pages.with_log(log))?;
+/// let pager = Pager::new(&pages.config(64), pages.with_log(log))?;
 /// pager.write(7)?.put(100, b"forty-two", 1)?; // under the log record 1
 /// pager.checkpoint()?;
 /// # std::fs::remove_dir_all(folder)?;
@@ -111,7 +111,7 @@ impl FilePages {
     }
 
     /// Adds pages of zeros to the file, up to so many, also while a pager has it. That has to have been made
-    /// with so many pages: see [`SharedConfig::pages`](crate::SharedConfig::pages). What
+    /// with so many pages: see [`PagerConfig::pages`](crate::PagerConfig::pages). What
     /// [`FileOptions::grown_to`] says of these pages holds of them too.
     ///
     /// # Errors
@@ -173,9 +173,9 @@ impl FilePages {
     }
 
     /// The settings of a pager over all of these pages, with so many frames, by
-    /// [`SharedConfig::new`].
-    pub fn config(&self, frames: usize) -> SharedConfig {
-        SharedConfig::new(self.pages(), self.page_size, frames)
+    /// [`PagerConfig::new`].
+    pub fn config(&self, frames: usize) -> PagerConfig {
+        PagerConfig::new(self.pages(), self.page_size, frames)
     }
 
     /// Reads a page as the device has it, and returns the LSN with which it was written: 0 where it was not

@@ -1,6 +1,6 @@
 //! Page files past the system's memory, where the file system has that.
 use crate::{Folder, Outcome};
-use hojzmated::{Device, FileOptions, Layout, OpenError, SharedPager};
+use hojzmated::{Device, FileOptions, Layout, OpenError, Pager};
 use std::path::Path;
 use std::sync::Arc;
 
@@ -49,7 +49,7 @@ fn direct_files() -> Outcome {
         let path = folder.join(number.to_string());
         let options = FileOptions::new(size).layout(layout).grown_to(PAGES);
         let pages = options.direct(true).create(&path)?;
-        let pager = Arc::new(SharedPager::new(&pages.config(16), pages.without_log())?);
+        let pager = Arc::new(Pager::new(&pages.config(16), pages.without_log())?);
         for page in 0..PAGES {
             let mut page = pager.write(page)?;
             let number = page.page() as u8;

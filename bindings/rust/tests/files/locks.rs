@@ -1,6 +1,6 @@
 //! Who else may have a page file: nobody, or others who read.
 use crate::{Folder, Outcome};
-use hojzmated::{Device, FileOptions, FilePages, OpenError, SharedPager};
+use hojzmated::{Device, FileOptions, FilePages, OpenError, Pager};
 use std::fs::{File, hard_link, rename};
 use std::io::{BufRead, BufReader, ErrorKind, Read};
 use std::path::Path;
@@ -23,7 +23,7 @@ fn a_second_pager_of_this_process_is_refused() -> Outcome {
     let folder = Folder::new();
     let (path, link) = (folder.join("pages"), folder.join("link"));
     let pages = OPTIONS.create(&path)?;
-    let pager = SharedPager::new(&pages.config(4), pages.without_log())?;
+    let pager = Pager::new(&pages.config(4), pages.without_log())?;
     hard_link(&path, &link)?;
     for name in [&path, &link] {
         assert!(is_in_use(OPTIONS.open(name)));
@@ -143,7 +143,7 @@ fn a_pager_of_another_process_is_refused() -> Outcome {
     let folder = Folder::new();
     let path = folder.join("pages");
     let pages = OPTIONS.create(&path)?;
-    let pager = SharedPager::new(&pages.config(4), pages.without_log())?;
+    let pager = Pager::new(&pages.config(4), pages.without_log())?;
     assert_eq!(told_to_another(&path)?.as_deref(), Some(IN_USE));
     drop(pager);
     // No lock outlives its process.

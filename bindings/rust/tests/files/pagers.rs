@@ -1,8 +1,8 @@
 //! Pagers over page files: pages come back, and what is not the page that was written is told.
 use crate::{Folder, Outcome};
 use hojzmated::{
-    Config, Device, Error, FileOptions, FilePages, Layout, Log, OpenError, Pager, PagerError,
-    ReadFault, SharedConfig, SharedPager,
+    Device, Error, FileOptions, FilePages, Layout, Log, OpenError, Pager, PagerConfig, PagerError,
+    ReadFault,
 };
 use std::fs::{File, read};
 use std::io::{self, ErrorKind};
@@ -35,7 +35,7 @@ fn options(layout: Layout) -> FileOptions {
 
 /// Puts something into each page, under a record that has its number and 100.
 fn fill<L: Log>(pages: FilePages, log: L) -> Outcome {
-    let pager = SharedPager::new(&pages.config(16), pages.with_log(log))?;
+    let pager = Pager::new(&pages.config(16), pages.with_log(log))?;
     for page in 0..PAGES {
         let mut page = pager.write(page)?;
         let (number, lsn) = (page.page() as u8 + 1, page.page() + 100);
@@ -68,9 +68,9 @@ fn pages_come_back() -> Outcome {
             let wanted = (head > 0).then_some(page + 100);
             assert_eq!((lsn, image), (wanted, [page as u8 + 1; SIZE]));
         }
-        let pager = Pager::new(&Config::new(PAGES, SIZE, 3), pages.without_log())?;
+        let pager = Pager::new(&pages.config(3), pages.without_log())?;
         for page in 0..PAGES {
-            assert_eq!(*pager.fix(0, page)?.bytes()?, [page as u8 + 1; SIZE]);
+            assert_eq!(*pager.read(page)?, [page as u8 + 1; SIZE]);
         }
     }
     Ok(())
@@ -124,7 +124,7 @@ fn rows_of_long_pages() -> Outcome {
     let options = FileOptions::new(65_536).layout(Layout::Checked);
     let pages = options.grown_to(40).create(folder.join("pages"))?;
     assert_eq!(pages.most_pages(), 15);
-    let pager = SharedPager::new(&pages.config(40), pages.without_log())?;
+    let pager = Pager::new(&pages.config(40), pages.without_log())?;
     for page in 0..40 {
         pager.write(page)?.put(65_535, &[page as u8 + 1], 0)?;
     }
@@ -177,7 +177,7 @@ fn torn_and_misplaced_pages_are_told() -> Outcome {
     assert_eq!(found, wanted.map(|(_, page)| page));
     let fault = pages.read_pages(2, 3, &mut vec![0; 3 * SIZE]);
     assert!(matches!(fault, Err(ReadFault::Spoilt)));
-    let pager = SharedPager::new(&pages.config(16), pages.without_log())?;
+    let pager = Pager::new(&pages.config(16), pages.without_log())?;
     let own = Arc::new(pager);
     let readers = own.start_readers(1)?;
     own.prefetch(0..PAGES);
@@ -198,9 +198,9 @@ fn torn_and_misplaced_pages_are_told() -> Outcome {
     let error = own.read(3).unwrap_err();
     assert_eq!(error.to_string(), "page 3 is torn or spoilt");
     let pages = Arc::into_inner(own).ok_or("it is shared")?.into_io();
-    let pager = Pager::new(&Config::new(PAGES, SIZE, 8), pages)?;
+    let pager = Pager::new(&PagerConfig::new(PAGES, SIZE, 8), pages)?;
     for (how, page) in wanted {
-        let error = pager.fix(0, page).unwrap_err();
+        let error = pager.read(page).unwrap_err();
         assert_eq!(fault_of(&error), (how, page));
     }
     Ok(())
@@ -227,7 +227,7 @@ fn numbered_pages_have_their_numbers() -> Outcome {
     let pages = options.open(&path)?;
     let never = pages.read_page(900, &mut [0; SIZE]);
     assert!(matches!(never, Err(ReadFault::WrongPage)));
-    let pager = SharedPager::new(&pages.config(4), pages.without_log())?;
+    let pager = Pager::new(&pages.config(4), pages.without_log())?;
     pager.new_page(900)?.put(0, b"new", 0)?;
     pager.checkpoint()?;
     let pages = pager.into_io().device;
@@ -245,8 +245,8 @@ fn a_file_grows_beside_its_pager() -> Outcome {
         let pages = options.pages(0).create(&path)?;
         assert_eq!(pages.pages(), 0);
         pages.grow_to(4)?;
-        let config = SharedConfig::new(PAGES, SIZE, 8);
-        let pager = SharedPager::new(&config, pages.without_log())?;
+        let config = PagerConfig::new(PAGES, SIZE, 8);
+        let pager = Pager::new(&config, pages.without_log())?;
         pager.write(3)?.put(0, b"three", 0)?;
         let error = pager.read(4).map(drop).unwrap_err();
         assert!(matches!(&error, PagerError::Read { page: 4, source }
@@ -295,11 +295,11 @@ fn what_is_read_alone_stays() -> Outcome {
             .layout(layout)
             .read_only(true)
             .open(&path)?;
-        let config = SharedConfig {
+        let config = PagerConfig {
             parts: 1,
             ..pages.config(4)
         };
-        let pager = SharedPager::new(&config, pages.without_log())?;
+        let pager = Pager::new(&config, pages.without_log())?;
         assert_eq!(pager.checkpoint()?, None);
         pager.write(2)?.put(0, b"two", 0)?;
         let error = pager.flush(2).unwrap_err();
@@ -319,9 +319,9 @@ fn halves_behind_pointers() -> Outcome {
     let config = pages.config(4);
     let device: Box<dyn Device> = Box::new(Arc::new(pages));
     let log: Box<dyn Log + '_> = Box::new(&log);
-    let pager = Pager::new(&Config::new(PAGES, SIZE, 4), (&device).with_log(&log))?;
-    pager.fix(0, 1)?.put(0, b"one", 7)?;
-    pager.flush(0, 1)?;
+    let pager = Pager::new(&config, (&device).with_log(&log))?;
+    pager.write(1)?.put(0, b"one", 7)?;
+    pager.flush(1)?;
     assert_eq!(config.pages, PAGES);
     assert_eq!(pager.io().device.most_pages(), 256);
     let mut image = [0; SIZE];

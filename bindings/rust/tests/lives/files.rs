@@ -1,7 +1,7 @@
 //! The page file and the log of the engine, and redo.
 use crate::log::{Log, Puts, sum, word};
 use crate::model::{Failure, Outcome};
-use hojzmated::{PageIo, ReadFault, SharedConfig};
+use hojzmated::{PageIo, PagerConfig, ReadFault};
 use hojzmated_disk::DiskFile;
 use std::collections::BTreeMap;
 use std::io;
@@ -45,12 +45,12 @@ pub fn stamp(page: u64, image: &mut [u8], lsn: u64) {
 }
 
 impl Shape {
-    pub fn config(&self) -> SharedConfig {
-        SharedConfig {
+    pub fn config(&self) -> PagerConfig {
+        PagerConfig {
             parts: self.parts,
             temporary: self.temporary.clone(),
             correlated: self.correlated,
-            ..SharedConfig::new(self.pages, self.size, self.frames)
+            ..PagerConfig::new(self.pages, self.size, self.frames)
         }
     }
 }

@@ -5,7 +5,7 @@ use crate::files::{BODY, Files, Head, Shape, put, redo, stamp};
 use crate::log::{FIRST, Log, Puts, Ranges, word};
 use crate::model::{Body, Failure, Outcome, Step};
 use crate::wrong::Wrong;
-use hojzmated::{PageIo, PageMut, SharedPager};
+use hojzmated::{PageIo, PageMut, Pager};
 use hojzmated_disk::Disk;
 use std::os::unix::fs::FileExt;
 use std::sync::atomic::{AtomicU64, Ordering};
@@ -21,7 +21,7 @@ struct Noted {
 }
 
 pub struct Store {
-    pub pager: Arc<SharedPager<Files>>,
+    pub pager: Arc<Pager<Files>>,
     shape: Shape,
     wrong: Option<Wrong>,
     /// Who writes has it shared from the record to the last put of it.
@@ -93,7 +93,7 @@ impl Store {
             log,
             has_failed: Mutex::default(),
         };
-        let pager = SharedPager::new(&shape.config(), files)?;
+        let pager = Pager::new(&shape.config(), files)?;
         pager.mark(last);
         let store = Store {
             pager: Arc::new(pager),

@@ -1,8 +1,8 @@
 //! The calls of a pool as values, with what they give, so that a test is a table.
-use hojzmated::{
-    Config, Error, Fixed, Flushed, PageGuard, Pass, Pool, ReadFault, ReadTicket, Refused, Saved,
-    WriteTicket,
+use hojzmated::core::{
+    Config, Fixed, Flushed, PageGuard, Pass, Pool, ReadTicket, Refused, Saved, WriteTicket,
 };
+use hojzmated::{Error, ReadFault};
 use std::io;
 
 /// A call. A pass is named by its serial number. The ticket of a read or of a write-out is the one

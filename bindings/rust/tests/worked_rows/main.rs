@@ -3,7 +3,8 @@
 mod calls;
 
 use calls::{Do, Gives, Run, pool};
-use hojzmated::{Config, Error, Pool, Saved};
+use hojzmated::Error;
+use hojzmated::core::{Config, Pool, Saved};
 
 const NEEDS_LOG_5: Gives = Gives::Refused(Error::NeedLog { lsn: 5 });
 

@@ -1,4 +1,4 @@
-//! A small storage engine over `SharedPager`, to be copied: see README.md.
+//! A small storage engine over `Pager`, to be copied: see README.md.
 //!
 //! Where a thread panics with a lock of the store, others panic as soon as they want it: nobody goes
 //! on with a step that is half done.

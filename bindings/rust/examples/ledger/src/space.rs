@@ -3,7 +3,7 @@
 use crate::store::Files;
 use crate::tree::{ROOT, misplaced, pages_below};
 use crate::{Error, Result, Store, node};
-use hojzmated::SharedPager;
+use hojzmated::Pager;
 use std::collections::VecDeque;
 
 /// The free pages.
@@ -16,7 +16,7 @@ pub struct Space {
 
 impl Space {
     /// Finds the free pages, while nobody uses the tree.
-    pub fn new(pager: &SharedPager<Files>) -> Result<Space> {
+    pub fn new(pager: &Pager<Files>) -> Result<Space> {
         let mut is_free = vec![true; pager.config().pages as usize];
         let below = pages_below(pager, node::body(&pager.read(ROOT)?))?;
         for page in [0, ROOT].into_iter().chain(below) {

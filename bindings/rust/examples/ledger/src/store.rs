@@ -6,7 +6,7 @@ use crate::record::Change;
 use crate::space::Space;
 use crate::tree::ROOT;
 use crate::{Error, Result, bad};
-use hojzmated::{Cleaner, PageIo, PagerError, ReadFault, SharedConfig, SharedPager, Stats};
+use hojzmated::{Cleaner, PageIo, Pager, PagerConfig, PagerError, ReadFault, Stats};
 use std::collections::{BTreeMap, BTreeSet};
 use std::hash::{BuildHasher, RandomState};
 use std::io;
@@ -51,7 +51,7 @@ impl PageIo for Files {
 
 /// A B+tree of u64 keys and values of up to 256 bytes, in pages under a log.
 pub struct Store {
-    pub(crate) pager: Arc<SharedPager<Files>>,
+    pub(crate) pager: Arc<Pager<Files>>,
     /// Who commits has it shared from before its record to its last put. A checkpoint has it alone for
     /// as long as it notes where the next record begins.
     pub(crate) gate: RwLock<()>,
@@ -94,7 +94,7 @@ impl Store {
     pub fn open(
         pages: Box<dyn Device>,
         log: Box<dyn Device>,
-        settings: impl FnOnce(u64, usize) -> SharedConfig,
+        settings: impl FnOnce(u64, usize) -> PagerConfig,
     ) -> Result<(Store, bool)> {
         let (log, is_torn) = Log::open(log)?;
         let [store, count, page_size, _] = log.fixed;
@@ -108,10 +108,10 @@ impl Store {
         if word(&head, BODY) != store {
             return bad("the log is that of another store");
         }
-        // RULES, the clock and the periods: the pager ticks at each fix, and `SharedConfig::new`
+        // RULES, the clock and the periods: the pager ticks at each fix, and `PagerConfig::new`
         // reckons the period from the frames.
         let config = settings(count, page_size as usize);
-        let pager = SharedPager::new(&config, Files { pages, log })?;
+        let pager = Pager::new(&config, Files { pages, log })?;
         // RULES, log before page: after a start the mark is raised to the last durable record.
         pager.mark(pager.io().log.end() - 1);
         redo(&pager)?;
@@ -197,7 +197,7 @@ impl Store {
 /// Makes the changes that the log has, through the pager. A page begins with its whole body there, and
 /// is not read before: it may be torn. All of them go out anew: after a sync that failed, a page may be in
 /// the memory of the system alone.
-fn redo(pager: &SharedPager<Files>) -> Result<()> {
+fn redo(pager: &Pager<Files>) -> Result<()> {
     let (mut begun, mut bodies) = (BTreeSet::new(), BTreeMap::new());
     pager.io().log.redo(|lsn, mut record| {
         while !record.is_empty() {

@@ -7,7 +7,7 @@
 use crate::node::{self, Node};
 use crate::store::Files;
 use crate::{Result, Store, bad};
-use hojzmated::{PageRef, SharedPager};
+use hojzmated::{PageRef, Pager};
 
 /// The page of the root, always.
 pub const ROOT: u64 = 1;
@@ -68,7 +68,7 @@ pub fn misplaced<T>(page: u64) -> Result<T> {
 }
 
 /// Lists the pages below the root, which nobody passes meanwhile, once nobody is at any of them.
-pub fn pages_below(pager: &SharedPager<Files>, root: &[u8]) -> Result<Vec<u64>> {
+pub fn pages_below(pager: &Pager<Files>, root: &[u8]) -> Result<Vec<u64>> {
     let (mut pages, mut begin) = (Vec::new(), 0);
     pages.extend(Node(root).children().map(|it| it.1));
     for level in (0..root[0]).rev() {

@@ -4,7 +4,7 @@
 mod disk;
 
 use disk::device;
-use hojzmated::SharedConfig;
+use hojzmated::PagerConfig;
 use hojzmated_disk::{Disk, Fault};
 use ledger::{Device, Error, Store};
 use std::alloc::{GlobalAlloc, Layout, System};
@@ -100,7 +100,7 @@ fn files(pages: u64, log: u64) -> [InMemory; 2] {
 }
 
 fn opened([pages, log]: &[InMemory; 2], frames: usize) -> Store {
-    let settings = |pages, size| SharedConfig::new(pages, size, frames);
+    let settings = |pages, size| PagerConfig::new(pages, size, frames);
     let (pages, log) = (Box::new(pages.clone()), Box::new(log.clone()));
     Store::open(pages, log, settings).unwrap().0
 }
@@ -226,7 +226,7 @@ fn rows_are_found_beside_splits() {
 }
 
 fn opened_on(disk: &Disk) -> ledger::Result<Store> {
-    let settings = |pages, size| SharedConfig::new(pages, size, 64);
+    let settings = |pages, size| PagerConfig::new(pages, size, 64);
     let opened = Store::open(device(disk, "pages"), device(disk, "log"), settings);
     opened.map(|it| it.0)
 }

@@ -66,7 +66,7 @@ pub enum Weakness {
 
 #[derive(Clone, Copy, PartialEq, Eq, Hash, PartialOrd, Ord, Debug, Default)]
 pub enum Kind {
-    /// `SharedPager::pin`.
+    /// `Pager::pin`.
     #[default]
     Pin,
     /// `try_pin`.

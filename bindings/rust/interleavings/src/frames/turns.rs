@@ -4,7 +4,7 @@ use super::steps::{Next, Steps};
 use super::{At, Kind, NONE, Thread, Weakness, Work};
 
 impl<const THREADS: usize, const FRAMES: usize> Steps<'_, THREADS, FRAMES> {
-    /// `SharedPager::fix`, or `Part::ask_in_turn` of a later round.
+    /// `Pager::fix`, or `Part::ask_in_turn` of a later round.
     pub(super) fn come(&mut self, me: Thread) {
         self.come_to(*self.state, me);
         let dropped = self
@@ -76,7 +76,7 @@ impl<const THREADS: usize, const FRAMES: usize> Steps<'_, THREADS, FRAMES> {
         }
     }
 
-    /// `SharedPager::go_on`, once the pool has answered.
+    /// `Pager::go_on`, once the pool has answered.
     fn go_on(&mut self, mut state: Next<THREADS, FRAMES>, mut me: Thread, asked: Asked) {
         if self.is(Weakness::SleepsInLine) && asked == Asked::Busy && me.ticket != NONE {
             let me = Thread {

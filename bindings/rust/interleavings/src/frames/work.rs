@@ -45,7 +45,7 @@ impl<const THREADS: usize, const FRAMES: usize> Steps<'_, THREADS, FRAMES> {
         self.add("keeps the page", self.to_wake(Thread::default()), next);
     }
 
-    /// `SharedPager::write_victim`: the frame of a page that was written out is not given away meanwhile,
+    /// `Pager::write_victim`: the frame of a page that was written out is not given away meanwhile,
     /// unless the lock has to be opened for a buffer.
     pub(super) fn end_write(&mut self) {
         let ended = self.me.at_frame(At::Coming, NONE);
@@ -76,7 +76,7 @@ impl<const THREADS: usize, const FRAMES: usize> Steps<'_, THREADS, FRAMES> {
         }
     }
 
-    /// `SharedPager::log_victim`.
+    /// `Pager::log_victim`.
     pub(super) fn end_log(&mut self) {
         let ended = self.me.at_frame(At::Coming, NONE);
         let frame = &self.state.frames[self.me.frame as usize];
@@ -111,7 +111,7 @@ impl<const THREADS: usize, const FRAMES: usize> Steps<'_, THREADS, FRAMES> {
         }
     }
 
-    /// `SharedPager::take_out`. A page that is to be discarded once its write-out ends is not written out
+    /// `Pager::take_out`. A page that is to be discarded once its write-out ends is not written out
     /// once more before.
     pub(super) fn flush(&mut self, me: Thread) {
         let mut next = *self.state;

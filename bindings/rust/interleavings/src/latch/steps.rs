@@ -250,7 +250,7 @@ impl<const THREADS: usize> Steps<'_, THREADS> {
         self.add("turns to a pin", at, |state| state.word = now.0);
     }
 
-    /// `SharedPager::fix` of a page in its frame, or after its read: `join_under`, or `pinned`.
+    /// `Pager::fix` of a page in its frame, or after its read: `join_under`, or `pinned`.
     fn fix(&mut self, wish: Option<Wish>) {
         if self.state.is_closing {
             // The part's lock is not free.

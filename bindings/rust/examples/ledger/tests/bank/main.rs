@@ -2,7 +2,7 @@
 mod bank;
 
 use bank::{Client, Random};
-use hojzmated::SharedConfig;
+use hojzmated::PagerConfig;
 use ledger::{Device, Store};
 use std::collections::HashMap;
 use std::fs::{self, File, TryLockError};
@@ -96,8 +96,8 @@ impl Settings {
         let [pages, log] = self.files(false)?;
         let (store, is_torn) = Store::open(pages, log, |pages, page_size| {
             let frames = self.number("--frames", 1_000) as usize;
-            let config = SharedConfig::new(pages, page_size, frames);
-            SharedConfig {
+            let config = PagerConfig::new(pages, page_size, frames);
+            PagerConfig {
                 correlated: self.number("--period", config.correlated),
                 k: self.number("--k", config.k.into()).try_into().unwrap_or(0),
                 ..config

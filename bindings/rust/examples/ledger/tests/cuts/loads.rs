@@ -3,7 +3,7 @@
 use crate::bank::Random;
 use crate::disk::device;
 use crate::run::{Asked, Outcome};
-use hojzmated::SharedConfig;
+use hojzmated::PagerConfig;
 use hojzmated_disk::{Disk, Fault};
 use ledger::{Result, Store};
 use std::collections::BTreeMap;
@@ -81,9 +81,9 @@ impl Run {
         for _ in 0..3 {
             let (failures, from) = (self.disk.failures(), self.disk.counts().all + 1);
             let (pages, log) = (device(&self.disk, "pages"), device(&self.disk, "log"));
-            let opened = Store::open(pages, log, |pages, size| SharedConfig {
+            let opened = Store::open(pages, log, |pages, size| PagerConfig {
                 parts: 1,
-                ..SharedConfig::new(pages, size, 32)
+                ..PagerConfig::new(pages, size, 32)
             });
             self.starts.push(from..self.disk.counts().all + 1);
             let compared = opened.and_then(|(store, _)| Ok((self.compare(&store)?, store)));

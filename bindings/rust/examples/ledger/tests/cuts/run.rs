@@ -1,7 +1,7 @@
 //! One run: a few lives of a store on one disk, and what has to be there after each.
 use crate::bank::Random;
 use crate::disk::device;
-use hojzmated::SharedConfig;
+use hojzmated::PagerConfig;
 use hojzmated_disk::{Counts, Disk, Fault};
 use ledger::{Error, Store};
 use std::collections::BTreeMap;
@@ -170,9 +170,9 @@ impl Run {
         for _ in 0..3 {
             let (failures, from) = (self.disk.failures(), self.disk.counts().all + 1);
             let frames = self.frames;
-            let config = |pages, page_size| SharedConfig {
+            let config = |pages, page_size| PagerConfig {
                 parts: if frames < 64 { 1 } else { 2 },
-                ..SharedConfig::new(pages, page_size, frames)
+                ..PagerConfig::new(pages, page_size, frames)
             };
             let opened = Store::open(
                 device(&self.disk, "pages"),

@@ -2,7 +2,7 @@
 use crate::bank::{self, Client, Random};
 use crate::disk::device;
 use crate::spread;
-use hojzmated::SharedConfig;
+use hojzmated::PagerConfig;
 use hojzmated_disk::{Disk, Fault};
 use ledger::{Error, Result, Store};
 use std::sync::atomic::{AtomicBool, AtomicU64, Ordering};
@@ -77,7 +77,7 @@ fn cut(seed: u64, work: &Work) -> Result<()> {
 
 fn opened(disk: &Disk, work: &Work) -> Result<Store> {
     let opened = Store::open(device(disk, "pages"), device(disk, "log"), |pages, size| {
-        SharedConfig::new(pages, size, work.frames)
+        PagerConfig::new(pages, size, work.frames)
     });
     opened.map(|it| it.0)
 }

@@ -1,0 +1,34 @@
+//! A pager that many threads use at once: several pools side by side, with latches on their pages.
+mod ahead;
+mod aside;
+mod away;
+mod config;
+mod discard;
+mod faults;
+mod firsts;
+mod fixing;
+mod guards;
+mod kept;
+mod latch;
+mod line;
+mod log;
+mod own;
+mod owned;
+mod part;
+mod pins;
+mod places;
+mod seats;
+mod syncs;
+mod upkeep;
+mod within;
+mod word;
+mod work;
+mod write_outs;
+
+pub use ahead::Readers;
+pub use config::PagerConfig;
+pub use fixing::Pager;
+pub use guards::{Left, PageMut, PagePin, PageRef};
+pub use owned::{OwnedMut, OwnedPin, OwnedRef};
+pub use pins::{Missed, MissedAlone};
+pub use upkeep::{Cleaner, Stats};
