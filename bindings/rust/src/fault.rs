@@ -1,5 +1,5 @@
 //! What goes wrong with an engine's device and log: `ReadFault`, and `PagerError`, which a call has.
-use crate::{Error, Result};
+use crate::Error;
 use std::{error, fmt, io};
 
 /// Why a page could not be read.

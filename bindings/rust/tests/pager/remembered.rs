@@ -1,7 +1,7 @@
 //! How long pages that are away are remembered, without a purge by the engine, and what that does to a
 //! scan.
 use crate::device::{Device, Fate, config};
-use hojzmated::{Config, PageIo, Pager, PagerConfig, ReadFault};
+use hojzmated::{PageIo, Pager, PagerConfig, ReadFault, core};
 use std::io;
 use std::sync::atomic::{AtomicU64, Ordering};
 
@@ -50,7 +50,7 @@ fn pager(retained: Option<u64>) -> Pager<Zeros> {
 fn settings_remember_eight_times_the_frames() {
     assert_eq!(PagerConfig::new(10_000, 16, 100).retained, 800);
     assert_eq!(PagerConfig::with_parts(10_000, 16, 100, 3).retained, 800);
-    assert_eq!(Config::new(10_000, 16, 100).retained, 800);
+    assert_eq!(core::Config::new(10_000, 16, 100).retained, 800);
 }
 
 // The clock moves on by one at each page. The newest four are in frames. Of the others 29 are from 4 to
