@@ -58,7 +58,7 @@
 //!
 //! // Page 7 is changed under the log record 1. Until the guard is dropped it stays in its frame.
 //! let mut page = pager.write(7)?; // nobody else looks at it meanwhile
-//! page.put(100, b"forty-two", 1)?;
+//! page.put(100, b"forty-two", 1)?; // under log record 1
 //! assert_eq!(page.bytes()[100..105], *b"forty"); // in place, without a copy
 //! drop(page);
 //!
