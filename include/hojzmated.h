@@ -175,8 +175,9 @@ uint16_t hz_read(hz_core *core, const hz_grant *pass, size_t offset, uint8_t *in
 
 /* Lends the page: tells in *bytes where its bytes are, as many as the page size, in the memory of the core. There they
  * stay as long as this pass is out and the core is not freed, whatever other calls come: fixes, loads, write-outs. They
- * change by hz_write alone, through whichever pass of the page. They may be looked at and not written to. No alignment
- * is promised. It is no call that the room counts. Refused: HZ_UNKNOWN_PASS. */
+ * change by hz_write alone, through whichever pass of the page. They may be looked at and not written to. The first one
+ * lies at a multiple of 16, as of all memory that malloc gives. It is no call that the room counts. Refused:
+ * HZ_UNKNOWN_PASS. */
 uint16_t hz_page(const hz_core *core, const hz_grant *pass, const uint8_t **bytes);
 
 /* Puts len bytes into the page from the offset on, under the log record lsn. Refused: HZ_OUT_OF_PAGE, HZ_TRAIL_FULL,

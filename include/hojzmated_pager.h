@@ -101,7 +101,7 @@ typedef struct hz_pager {
  * each copy is refused with HZ_UNKNOWN_PASS, by whichever thread, for ever. */
 typedef struct hz_ref {
     const uint8_t *bytes; /* the page in place, as many bytes as the page size, until it is given back. Null if it is
-                             pinned without a latch. No alignment is promised */
+                             pinned without a latch. It is a multiple of 16 */
     uint64_t page;
     uint64_t serial;
     uint32_t slot;

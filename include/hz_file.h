@@ -61,17 +61,24 @@ static inline uint8_t *hz_file_image(const hz_file *file)
     return file->slot + HZ_FILE_HEAD;
 }
 
+/* A value as one of another type. */
+#ifdef __cplusplus
+#define HZ_FILE_AS(type, value) static_cast<type>(value)
+#else
+#define HZ_FILE_AS(type, value) ((type)(value))
+#endif
+
 static inline void hz_file_put(uint8_t *bytes, uint64_t number)
 {
     for (int i = 0; i < 8; i++)
-        bytes[i] = (uint8_t)(number >> 8 * i);
+        bytes[i] = HZ_FILE_AS(uint8_t, number >> 8 * i);
 }
 
 static inline uint64_t hz_file_get(const uint8_t *bytes)
 {
     uint64_t number = 0;
     for (int i = 0; i < 8; i++)
-        number |= (uint64_t)bytes[i] << 8 * i;
+        number |= HZ_FILE_AS(uint64_t, bytes[i]) << 8 * i;
     return number;
 }
 
@@ -80,7 +87,7 @@ static inline bool hz_file_move(const hz_file *file, bool is_write, uint64_t pag
 {
     size_t head = file->format == 2 ? HZ_FILE_HEAD : 0, left = head + file->page_size;
     uint8_t *bytes = hz_file_image(file) - head;
-    off_t at = (off_t)(page * left);
+    off_t at = HZ_FILE_AS(off_t, page * left);
     while (left > 0) {
         ssize_t moved = is_write ? pwrite(file->fd, bytes, left, at) : pread(file->fd, bytes, left, at);
         if (moved < 0 && errno == EINTR)
@@ -90,7 +97,7 @@ static inline bool hz_file_move(const hz_file *file, bool is_write, uint64_t pag
         if (moved <= 0)
             return false;
         bytes += moved;
-        left -= (size_t)moved;
+        left -= HZ_FILE_AS(size_t, moved);
         at += moved;
     }
     return true;

@@ -346,6 +346,7 @@ static void try_page(void)
     }
     const uint8_t **lent = &m.passes.lent[place_of(&m.passes, &grant)];
     SAME(true, !*lent || *lent == *bytes_at);
+    SAME(0, (uintptr_t)*bytes_at % 16);
     *lent = *bytes_at;
 }
 

@@ -144,6 +144,7 @@ static void fixes(void)
     hz_ref pin = fixed(&pager, 3, HZ_PINNED);
     SAME(true, is_filled(shared.bytes, SIZE, 3));
     SAME(true, is_filled(alone.bytes, SIZE, 5));
+    SAME(0, ((uintptr_t)shared.bytes | (uintptr_t)alone.bytes) % 16);
     SAME(0, (uintptr_t)pin.bytes);
     SAME(true, shared.serial != alone.serial && alone.serial != pin.serial);
     SAME(2, device.reads);
