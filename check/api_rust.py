@@ -1,7 +1,7 @@
 """Lists what the Rust crate offers, for check/api, from what rustdoc says of it in JSON.
 
 That form is not stable, so it is asked of a toolchain of the versions below alone; a stable one has it by
-RUSTC_BOOTSTRAP. What is hidden in the documents is not listed.
+RUSTC_BOOTSTRAP. What is hidden in the documents is not listed, but for what is left of another version as deprecated.
 """
 
 import json
@@ -26,7 +26,7 @@ def said_by_rustdoc(folder):
     if not shutil.which("cargo"):
         raise LeftOut("no cargo")
     words = ["cargo", "rustdoc", "--offline", "--quiet", "--lib", "--manifest-path", MANIFEST, "--", "-Z",
-             "unstable-options", "--output-format", "json"]
+             "unstable-options", "--output-format", "json", "--document-hidden-items"]
     ran = runner.ended(words, SECONDS, {"RUSTC_BOOTSTRAP": "1", "DOCS_RS": "1", "CARGO_TARGET_DIR": folder})
     if ran.returncode:
         raise Failed(f"{' '.join(words)}: status {ran.returncode}\n{ran.stdout[-2000:]}")
@@ -47,21 +47,25 @@ class Crate:
         self.walk(self.item(said["root"]), "")
 
     def item(self, key):
-        return self.items.get(str(key))
+        """An item, if a program may know of it."""
+        found = self.items.get(str(key))
+        return None if found and "doc(hidden)" in str(found["attrs"]) and not found["deprecation"] else found
 
     def walk(self, module, path):
         """Notes all that a module offers, with what it lends on."""
         for key in module["inner"]["module"]["items"]:
+            item = self.items.get(str(key))
+            used = item["inner"].get("use") if item else None
+            if used and used["is_glob"]:
+                self.walk(self.items[str(used["id"])], path)
+                continue
             item = self.item(key)
-            if item is None or item["visibility"] != "public" and "impl" not in item["inner"]:
+            if item is None or item["visibility"] != "public":
                 continue
             name = item["name"]
-            if "use" in item["inner"]:
-                used = item["inner"]["use"]
+            if used:
                 item, name = self.item(used["id"]), used["name"]
-                if item is None:
-                    continue
-            if name is None:
+            if item is None or name is None:
                 continue
             own = f"{path}{name}"
             self.public.append((own, item))
@@ -225,8 +229,8 @@ class Crate:
     def list_enum(self, path, item, told):
         names, asked = self.generics(told["generics"])
         yield f"{'' if self.is_open(item) else 'exhaustive '}enum {path}{names}{asked}"
-        for key in told["variants"]:
-            yield self.variant(path, self.item(key))
+        variants = [self.item(key) for key in told["variants"]]
+        yield from (self.variant(path, it) for it in variants if it)
         yield from self.impls(path, told["impls"])
 
     def variant(self, path, item):

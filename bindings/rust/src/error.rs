@@ -219,7 +219,21 @@ impl std::error::Error for Error {}
 #[cfg(test)]
 mod tests {
     use super::*;
-    use crate::sys::tests::refusals_in_header;
+
+    /// Returns the names and numbers of the header's `enum hz_refusal` in its order, but for `HZ_DONE`.
+    fn refusals_in_header() -> Vec<(String, u16)> {
+        let block = sys::HEADER
+            .split_once("enum hz_refusal {\n")
+            .and_then(|(_, rest)| rest.split_once("};"))
+            .map_or("", |(block, _)| block);
+        block
+            .lines()
+            .filter_map(|line| line.split_once(','))
+            .filter_map(|(constant, _)| constant.split_once(" = "))
+            .filter_map(|(name, number)| Some((name.trim().to_owned(), number.parse().ok()?)))
+            .filter(|(_, number)| *number != 0)
+            .collect()
+    }
 
     /// The numbers here are those of the header's `enum hz_refusal`, all of them and in its order.
     /// So are the names, in the header's spelling.
@@ -239,9 +253,6 @@ mod tests {
         assert!(last < Some(Error::Lent.number()));
         assert_eq!(Error::VersionMismatch { library: 0 }.number(), 61);
         assert_eq!(Error::TooManyGuards.number(), 62);
-        let pager = include_str!("../../../include/hojzmated_pager.h");
-        let line = format!("HZ_DEADLOCK = {},", Error::Deadlock.number());
-        assert!(pager.contains(&line));
         assert_eq!(Error::check(0), Ok(()));
     }
 

@@ -1,84 +1,49 @@
-//! The buffer pool Hojzmated for engines in Rust.
+//! A buffer pool for storage engines. It keeps pages of a file in memory, reads a page as it is asked for,
+//! and writes changed pages out: none before the log record of its change is durable. LRU-K chooses which
+//! page makes way for another, and no page does that is in use.
 //!
-//! What this crate's own code does is tested, not proved. Below it is a library that is proved: no
-//! pinned page leaves its frame, the page that leaves is the one that LRU-K says, and no image goes
-//! out before its log record is durable. `docs/C.md` of the repository says what is proved of the
-//! library, and what a caller has to keep to. This crate keeps to that.
-//!
-//! A [`Pager`] is for many threads at once, or for one, with latches on its pages. It has a device and a
-//! log. [`FilePages`] is a device that is ready: a page file, with a lock and checksums, to which the
-//! engine's [`Log`] is joined. Or both are the engine's own: four functions of [`PageIo`]. With such a
-//! type:
+//! | Type | For whom | Device and log |
+//! |---|---|---|
+//! | [`Pager`] | one thread or many, with a latch on each page | [`FilePages`] with the engine's [`Log`], or a [`PageIo`] |
+//! | [`core::Pool`](crate::core::Pool) | engines that read and write by themselves | the engine's: tickets say what to read and write |
 //!
 //! ```
-//! use hojzmated::{PageIo, Pager, PagerConfig, ReadFault};
-//! use std::fs::File;
-//! use std::io;
-//! use std::os::unix::fs::FileExt;
+//! use hojzmated::{Device, FileOptions, Pager};
 //!
-//! struct Files {
-//!     pages: File,
-//!     log: File,
-//! }
-//!
-//! impl PageIo for Files {
-//!     fn read_page(&self, page: u64, image: &mut [u8]) -> Result<(), ReadFault> {
-//!         Ok(self.pages.read_exact_at(image, page * image.len() as u64)?)
-//!     }
-//!
-//!     fn write_page(&self, page: u64, image: &mut [u8], lsn: u64) -> io::Result<()> {
-//!         // The image is a copy of the page: here its page LSN is put into its first word.
-//!         image[..8].copy_from_slice(&lsn.to_le_bytes());
-//!         self.pages.write_all_at(image, page * image.len() as u64)
-//!     }
-//!
-//!     fn make_log_durable(&self, _lsn: u64) -> io::Result<()> {
-//!         self.log.sync_data()
-//!     }
-//!
-//!     fn sync(&self) -> io::Result<()> {
-//!         self.pages.sync_data()
-//!     }
-//! }
-//!
-//! # fn scratch() -> io::Result<File> {
-//! #     use std::sync::atomic::{AtomicU32, Ordering};
-//! #     static NEXT: AtomicU32 = AtomicU32::new(0);
-//! #     let number = NEXT.fetch_add(1, Ordering::Relaxed);
-//! #     let path = std::env::temp_dir().join(format!("hojzmated-{}-{number}", std::process::id()));
-//! #     let file = File::options().read(true).write(true).create_new(true).open(&path)?;
-//! #     std::fs::remove_file(path)?;
-//! #     Ok(file)
-//! # }
 //! # fn main() -> Result<(), Box<dyn std::error::Error>> {
-//! # let (pages, log) = (scratch()?, scratch()?);
-//! // A file of 1,000 pages of 4,096 bytes, of which 64 are in memory.
-//! pages.set_len(1_000 * 4_096)?;
-//! let pager = Pager::new(&PagerConfig::new(1_000, 4_096, 64), Files { pages, log })?;
+//! # let path = std::env::temp_dir().join(format!("hojzmated-first-{}", std::process::id()));
+//! let options = FileOptions::new(4_096).grown_to(1_000); // 1,000 pages of 4,096 bytes
+//! let pages = options.create(&path)?; // a `FilePages`: the file is locked till it is dropped
+//! let pager = Pager::new(&pages.config(64), pages.without_log())?; // 64 pages in memory
 //!
-//! // Page 7 is changed under the log record 1. Until the guard is dropped it stays in its frame.
-//! let mut page = pager.write(7)?; // nobody else looks at it meanwhile
-//! page.put(100, b"forty-two", 1)?; // under log record 1
-//! assert_eq!(page.bytes()[100..105], *b"forty"); // in place, without a copy
+//! let mut page = pager.write(7)?; // a guard: page 7 stays here, and nobody else has it
+//! page.put(100, b"forty-two", 0)?; // under a log record; 0 is none
 //! drop(page);
-//!
-//! // The log goes out before the page.
-//! pager.flush(7)?;
-//! let mut found = [0; 109];
-//! pager.io().pages.read_exact_at(&mut found, 7 * 4_096)?;
-//! assert_eq!(found[..8], 1u64.to_le_bytes());
-//! assert_eq!(found[100..], *b"forty-two");
+//! assert_eq!(pager.read(7)?[100..105], *b"forty"); // the bytes in place, without a copy
+//! pager.checkpoint()?; // writes out what is unsaved, and syncs the device
+//! # std::fs::remove_file(path)?;
 //! # Ok(())
 //! # }
 //! ```
 //!
-//! A call of a pager that may use the device or the log fails with a [`PagerError`], which has the
-//! page or LSN and the fault, or a refusal of the pool. All other calls, also those of guards, fail
-//! with an [`Error`], which is such a refusal alone.
+//! [`FilePages`] shows how the engine's log is joined to a file; a [`PageIo`] is device and log in one. A call
+//! of a pager that may use either fails with a [`PagerError`], which has the page or LSN and the fault, or a
+//! refusal of the pool. All other calls, also those of guards, fail with an [`Error`], which is such a
+//! refusal alone.
 //!
-//! An engine that reads and writes by its own means calls a core itself, a [`Pool`](crate::core::Pool). That does no
-//! input or output, and says what is to be read or written by tickets, which may be kept while a mutex
-//! is open.
+//! **Rules.** What an engine has to keep, so that its data is safe and no call is refused without need, is in
+//! the module [`rules`]: the order of a checkpoint, redo after a crash, locks beside latches.
+//!
+//! **Limits.** A page has 16 to 65,536 bytes, a multiple of 16. A [`Pager`] has at most 67,108,864 pages, with
+//! 8 bytes of memory for each, and 4,194,304 frames; a [`Pool`](crate::core::Pool) 1,048,576 and 65,536. The number of
+//! pages is given as it is made, and a file may grow up to it.
+//!
+//! **Platform.** Linux on x86-64 processors of level v2, which came in 2009, or newer: the library below is
+//! built for no other. The crate wants Rust 1.85 and no crate but `hojzmated-sys`, which has that library.
+//!
+//! **What is proved.** Each [`Pool`](crate::core::Pool), of which a pager has up to 64: that no pinned page leaves its
+//! frame, that the page that leaves is LRU-K's, and that no image goes out before its log record is durable.
+//! What this crate does beside them is tested, and not proved.
 #![deny(missing_docs, unsafe_op_in_unsafe_fn)]
 #![warn(
     clippy::undocumented_unsafe_blocks,
@@ -97,7 +62,9 @@ mod pager;
 #[cfg(doctest)]
 mod refused;
 mod renamed;
-mod sys;
+pub mod rules;
+
+use hojzmated_sys as sys;
 
 pub use counts::{Totals, UnsavedPage};
 pub use error::{Error, Result};

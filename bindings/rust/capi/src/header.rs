@@ -163,3 +163,10 @@ fn numbers() {
         }
     }
 }
+
+/// The crate of the pager gives a deadlock the number of the header.
+#[test]
+fn number_of_a_deadlock() {
+    let line = format!("HZ_DEADLOCK = {},", hojzmated::Error::Deadlock.number());
+    assert!(HEADER.contains(&line));
+}

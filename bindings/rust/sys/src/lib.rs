@@ -1,84 +1,88 @@
-//! The calls and structs of `hojzmated.h`, as the header has them.
+//! The calls and structs of `hojzmated.h`, as the header has them, and the library that has these calls. The
+//! header says what each takes, gives and refuses. The crate `hojzmated` is for engines.
+#![cfg_attr(not(test), no_std)]
 #![allow(non_camel_case_types)]
 
-use std::ffi::c_void;
+use core::ffi::c_void;
+
+/// The text of the header.
+pub const HEADER: &str = include_str!("../include/hojzmated.h");
 
 #[cfg(not(target_pointer_width = "64"))]
 compile_error!("the pool is for machines with pointers of 64 bits");
 
 /// `HZ_HIT`, `HZ_LOAD`, `HZ_WRITE_FIRST`, `HZ_CLEAN` and `HZ_ABSENT`: what `hz_fixed.kind` may be.
-pub(crate) const HIT: u8 = 1;
-pub(crate) const LOAD: u8 = 2;
-pub(crate) const WRITE_FIRST: u8 = 3;
-pub(crate) const CLEAN: u8 = 4;
-#[cfg(test)]
-pub(crate) const ABSENT: u8 = 5;
+pub const HIT: u8 = 1;
+pub const LOAD: u8 = 2;
+pub const WRITE_FIRST: u8 = 3;
+pub const CLEAN: u8 = 4;
+pub const ABSENT: u8 = 5;
 
 #[repr(C)]
-pub(crate) struct hz_seal {
-    pub(crate) pool: *mut c_void,
+pub struct hz_seal {
+    pub pool: *mut c_void,
 }
 
 #[repr(C)]
-pub(crate) struct hz_core {
-    pub(crate) seal: hz_seal,
-    pub(crate) is_live: bool,
+pub struct hz_core {
+    pub seal: hz_seal,
+    pub is_live: bool,
 }
 
 #[repr(C)]
-pub(crate) struct hz_config {
-    pub(crate) pages: u64,
-    pub(crate) page_size: usize,
-    pub(crate) frames: usize,
-    pub(crate) room: usize,
-    pub(crate) correlated: u64,
-    pub(crate) retained: u64,
-    pub(crate) k: u8,
-    pub(crate) clients: u8,
+pub struct hz_config {
+    pub pages: u64,
+    pub page_size: usize,
+    pub frames: usize,
+    pub room: usize,
+    pub correlated: u64,
+    pub retained: u64,
+    pub k: u8,
+    pub clients: u8,
 }
 
 #[repr(C)]
 #[derive(Clone, Copy, Debug, Default, PartialEq, Eq, Hash)]
-pub(crate) struct hz_grant {
-    pub(crate) page: u64,
-    pub(crate) serial: u64,
-    pub(crate) client: u8,
+pub struct hz_grant {
+    pub page: u64,
+    pub serial: u64,
+    pub client: u8,
 }
 
 #[repr(C)]
 #[derive(Default)]
-pub(crate) struct hz_fixed {
-    pub(crate) grant: hz_grant,
-    pub(crate) lsn: u64,
-    pub(crate) evicted: u64,
-    pub(crate) kind: u8,
-    pub(crate) has_evicted: u8,
+pub struct hz_fixed {
+    pub grant: hz_grant,
+    pub lsn: u64,
+    pub evicted: u64,
+    pub kind: u8,
+    pub has_evicted: u8,
 }
 
 #[repr(C)]
 #[derive(Default)]
-pub(crate) struct hz_unsaved {
-    pub(crate) page: u64,
-    pub(crate) lsn: u64,
-    pub(crate) first_lsn: u64,
-    pub(crate) has_page: u8,
+pub struct hz_unsaved {
+    pub page: u64,
+    pub lsn: u64,
+    pub first_lsn: u64,
+    pub has_page: u8,
 }
 
 #[repr(C)]
 #[derive(Default)]
-pub(crate) struct hz_stats {
-    pub(crate) hits: u64,
-    pub(crate) faults: u64,
-    pub(crate) evictions: u64,
-    pub(crate) writes: u64,
-    pub(crate) failed: u64,
-    pub(crate) refused: u64,
-    pub(crate) resident: usize,
-    pub(crate) pinned: usize,
-    pub(crate) unsaved: usize,
-    pub(crate) loading: usize,
-    pub(crate) writing: usize,
-    pub(crate) discards: u64,
+pub struct hz_stats {
+    pub hits: u64,
+    pub faults: u64,
+    pub evictions: u64,
+    pub writes: u64,
+    pub failed: u64,
+    pub refused: u64,
+    pub resident: usize,
+    pub pinned: usize,
+    pub unsaved: usize,
+    pub loading: usize,
+    pub writing: usize,
+    pub discards: u64,
 }
 
 // Each call except `hz_text` and `hz_version` requires: `core` is zero, or as these calls left it,
@@ -86,9 +90,9 @@ pub(crate) struct hz_stats {
 // elements where a length follows it, and may be written to where it is `*mut`; no two of a call
 // overlap.
 unsafe extern "C" {
-    pub(crate) fn hz_core_new(config: *const hz_config, core: *mut hz_core) -> u16;
-    pub(crate) fn hz_core_free(core: *mut hz_core) -> u16;
-    pub(crate) fn hz_fix(
+    pub fn hz_core_new(config: *const hz_config, core: *mut hz_core) -> u16;
+    pub fn hz_core_free(core: *mut hz_core) -> u16;
+    pub fn hz_fix(
         core: *mut hz_core,
         client: u8,
         page: u64,
@@ -96,34 +100,30 @@ unsafe extern "C" {
         len: usize,
         out: *mut hz_fixed,
     ) -> u16;
-    pub(crate) fn hz_read_end(
+    pub fn hz_read_end(
         core: *mut hz_core,
         ticket: *const hz_grant,
         image: *const u8,
         len: usize,
         pass: *mut hz_grant,
     ) -> u16;
-    pub(crate) fn hz_read_failed(
-        core: *mut hz_core,
-        ticket: *const hz_grant,
-        is_wrong_page: bool,
-    ) -> u16;
-    pub(crate) fn hz_write_end(
+    pub fn hz_read_failed(core: *mut hz_core, ticket: *const hz_grant, is_wrong_page: bool) -> u16;
+    pub fn hz_write_end(
         core: *mut hz_core,
         ticket: *const hz_grant,
         is_good: bool,
         is_still_dirty: *mut u8,
     ) -> u16;
-    pub(crate) fn hz_unfix(core: *mut hz_core, pass: *const hz_grant) -> u16;
-    pub(crate) fn hz_read(
+    pub fn hz_unfix(core: *mut hz_core, pass: *const hz_grant) -> u16;
+    pub fn hz_read(
         core: *mut hz_core,
         pass: *const hz_grant,
         offset: usize,
         into: *mut u8,
         len: usize,
     ) -> u16;
-    pub(crate) fn hz_page(core: *mut hz_core, pass: *const hz_grant, bytes: *mut *const u8) -> u16;
-    pub(crate) fn hz_write(
+    pub fn hz_page(core: *mut hz_core, pass: *const hz_grant, bytes: *mut *const u8) -> u16;
+    pub fn hz_write(
         core: *mut hz_core,
         pass: *const hz_grant,
         offset: usize,
@@ -131,9 +131,9 @@ unsafe extern "C" {
         len: usize,
         lsn: u64,
     ) -> u16;
-    pub(crate) fn hz_tick(core: *mut hz_core, client: u8, n: u64) -> u16;
-    pub(crate) fn hz_mark(core: *mut hz_core, client: u8, lsn: u64) -> u16;
-    pub(crate) fn hz_flush(
+    pub fn hz_tick(core: *mut hz_core, client: u8, n: u64) -> u16;
+    pub fn hz_mark(core: *mut hz_core, client: u8, lsn: u64) -> u16;
+    pub fn hz_flush(
         core: *mut hz_core,
         client: u8,
         page: u64,
@@ -141,30 +141,24 @@ unsafe extern "C" {
         len: usize,
         out: *mut hz_fixed,
     ) -> u16;
-    pub(crate) fn hz_discard(
-        core: *mut hz_core,
-        client: u8,
-        page: u64,
-        was_resident: *mut u8,
-    ) -> u16;
-    pub(crate) fn hz_purge(core: *mut hz_core, client: u8, count: *mut u64) -> u16;
-    pub(crate) fn hz_page_lsn(core: *mut hz_core, pass: *const hz_grant, lsn: *mut u64) -> u16;
-    pub(crate) fn hz_next_unsaved(core: *mut hz_core, from: u64, out: *mut hz_unsaved) -> u16;
-    pub(crate) fn hz_victim(core: *mut hz_core, page: *mut u64, has_page: *mut u8) -> u16;
-    pub(crate) fn hz_redo_from(core: *mut hz_core, lsn: *mut u64, has_lsn: *mut u8) -> u16;
-    pub(crate) fn hz_stats_of(core: *mut hz_core, out: *mut hz_stats) -> u16;
-    pub(crate) fn hz_is_resident(core: *mut hz_core, page: u64, is_resident: *mut u8) -> u16;
-    pub(crate) fn hz_text(number: u16, into: *mut u8, len: usize) -> usize;
-    pub(crate) safe fn hz_version() -> u32;
+    pub fn hz_discard(core: *mut hz_core, client: u8, page: u64, was_resident: *mut u8) -> u16;
+    pub fn hz_purge(core: *mut hz_core, client: u8, count: *mut u64) -> u16;
+    pub fn hz_page_lsn(core: *mut hz_core, pass: *const hz_grant, lsn: *mut u64) -> u16;
+    pub fn hz_next_unsaved(core: *mut hz_core, from: u64, out: *mut hz_unsaved) -> u16;
+    pub fn hz_victim(core: *mut hz_core, page: *mut u64, has_page: *mut u8) -> u16;
+    pub fn hz_redo_from(core: *mut hz_core, lsn: *mut u64, has_lsn: *mut u8) -> u16;
+    pub fn hz_stats_of(core: *mut hz_core, out: *mut hz_stats) -> u16;
+    pub fn hz_is_resident(core: *mut hz_core, page: u64, is_resident: *mut u8) -> u16;
+    pub fn hz_text(number: u16, into: *mut u8, len: usize) -> usize;
+    pub safe fn hz_version() -> u32;
 }
 
 #[cfg(test)]
-pub(crate) mod tests {
+mod tests {
     use super::*;
     use std::mem::offset_of;
 
-    const HEADER: &str = include_str!("../../../include/hojzmated.h");
-    const LAYOUT: &str = include_str!("../../../peers/c/layout.c");
+    const LAYOUT: &str = include_str!("../tests/layout.c");
 
     /// Returns the size of a field of this struct.
     const fn len_of<S, F>(_: fn(&S) -> &F) -> usize {
@@ -222,13 +216,13 @@ pub(crate) mod tests {
     /// line.
     #[test]
     fn functions() {
-        let declared = include_str!("sys.rs")
+        let declared = include_str!("lib.rs")
             .split_once("unsafe extern \"C\" {")
             .and_then(|(_, rest)| rest.split_once("\n}\n"))
             .map_or("", |(block, _)| block);
         let here = declared
             .lines()
-            .filter_map(|line| line.trim().strip_prefix("pub(crate) "));
+            .filter_map(|line| line.trim().strip_prefix("pub "));
         let there = HEADER
             .lines()
             .filter(|line| line.starts_with(|c: char| c.is_ascii_lowercase()));
@@ -248,13 +242,6 @@ pub(crate) mod tests {
             .filter_map(|(constant, _)| constant.split_once(" = "))
             .filter_map(|(name, number)| Some((name.trim().to_owned(), number.parse().ok()?)))
             .collect()
-    }
-
-    /// Returns the refusals of the header, without `HZ_DONE`, which is 0.
-    pub(crate) fn refusals_in_header() -> Vec<(String, u16)> {
-        let mut found = enum_in_header("hz_refusal");
-        found.retain(|(_, number)| *number != 0);
-        found
     }
 
     #[test]

@@ -1,8 +1,8 @@
 //! Finds the archive `libhojzmated.a`, and has it linked.
 //!
-//! It is looked for where `HOJZMATED_PREFIX` says, then in the folder `lib` of this crate, where the
-//! crate of a release has it, then where pkg-config says, and then in the checkout that this crate
-//! stands in, where `make -C bindings/c` builds it.
+//! It is looked for where `HOJZMATED_PREFIX` says, then in this crate's folder `lib/x86_64-linux`, where a
+//! package and the crate of a release have it, then where pkg-config says, and then in the checkout that
+//! this crate stands in, where `make -C bindings/c` builds it. For documents alone it is not wanted.
 use std::env;
 use std::path::{Path, PathBuf};
 use std::process::{Command, Stdio};
@@ -10,16 +10,45 @@ use std::process::{Command, Stdio};
 const ARCHIVE: &str = "libhojzmated.a";
 
 fn main() {
-    println!("cargo::rerun-if-env-changed=HOJZMATED_PREFIX");
-    println!("cargo::rerun-if-env-changed=PKG_CONFIG");
-    println!("cargo::rerun-if-env-changed=PKG_CONFIG_PATH");
-    match found_folder() {
+    for name in [
+        "DOCS_RS",
+        "HOJZMATED_PREFIX",
+        "PKG_CONFIG",
+        "PKG_CONFIG_PATH",
+    ] {
+        println!("cargo::rerun-if-env-changed={name}");
+    }
+    println!(
+        "cargo::metadata=include={}",
+        own().join("include").display()
+    );
+    if env::var_os("DOCS_RS").is_some() {
+        return;
+    }
+    match check_target().and_then(|()| found_folder()) {
         Ok(folder) => {
             println!("cargo::rerun-if-changed={}", folder.join(ARCHIVE).display());
             println!("cargo::rustc-link-search=native={}", folder.display());
             println!("cargo::rustc-link-lib=static=hojzmated");
         }
         Err(why) => println!("cargo::error={why}"),
+    }
+}
+
+/// The folder of this crate.
+fn own() -> PathBuf {
+    env::var_os("CARGO_MANIFEST_DIR").map_or(".".into(), PathBuf::from)
+}
+
+/// Refuses a target for which there is no proved library.
+fn check_target() -> Result<(), String> {
+    let told = |key| env::var(format!("CARGO_CFG_TARGET_{key}")).unwrap_or_default();
+    match (told("ARCH").as_str(), told("OS").as_str()) {
+        ("x86_64", "linux") => Ok(()),
+        (processor, system) => Err(format!(
+            "hojzmated is there for x86_64 Linux alone, and not for {processor} {system}: its proved library is built \
+             for no other target"
+        )),
     }
 }
 
@@ -45,7 +74,7 @@ fn found_folder() -> Result<PathBuf, String> {
 }
 
 fn within_the_crate() -> Option<PathBuf> {
-    let folder = PathBuf::from(env::var_os("CARGO_MANIFEST_DIR")?).join("lib");
+    let folder = own().join("lib").join("x86_64-linux");
     folder.join(ARCHIVE).is_file().then_some(folder)
 }
 
@@ -61,11 +90,13 @@ fn told_by_pkg_config() -> Option<PathBuf> {
 
 /// What `make` left in `bindings/c`, made now where it is not there yet.
 fn built_in_the_checkout() -> Option<PathBuf> {
-    let own = PathBuf::from(env::var_os("CARGO_MANIFEST_DIR")?);
-    let beside = own.parent()?.join("c");
+    let beside = own().parent()?.parent()?.join("c");
+    if !beside.join("Makefile").is_file() {
+        return None;
+    }
     let folder = beside.join("out").join("lib");
     println!("cargo::rerun-if-changed={}", folder.join(ARCHIVE).display());
-    if !folder.join(ARCHIVE).is_file() && beside.join("Makefile").is_file() {
+    if !folder.join(ARCHIVE).is_file() {
         let mut make = Command::new("make");
         // What it says would be taken for words to cargo.
         make.arg("-C").arg(&beside).stdout(Stdio::null());

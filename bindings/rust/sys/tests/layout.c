@@ -1,0 +1,1 @@
+../../../../peers/c/layout.c
