@@ -5,7 +5,7 @@
 //! | Type | For whom | Device and log |
 //! |---|---|---|
 //! | [`Pager`] | one thread or many, with a latch on each page | [`FilePages`] with the engine's [`Log`], or a [`PageIo`] |
-//! | [`core::Pool`](crate::core::Pool) | engines that read and write by themselves | the engine's: tickets say what to read and write |
+//! | [`core::Pool`] | engines that read and write by themselves | the engine's: tickets say what to read and write |
 //!
 //! ```
 //! use hojzmated::{Device, FileOptions, Pager};
