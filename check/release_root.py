@@ -69,6 +69,13 @@ cmp stdout /tmp/printed
 bin/scenarios < examples/scenarios/stdin > /tmp/printed
 cmp examples/scenarios/stdout /tmp/printed
 """),
+    ("the notices", "", """
+for name in clap csv hex rtrb slab; do
+    grep -q "^$name: LICENSE" NOTICES
+done
+grep -q "^Rust's library: MIT.txt" NOTICES
+grep -q '^slab: LICENSE' rust/sys/lib/NOTICES
+"""),
     ("man pages", "man", """
 for page in share/man/man1/*.1; do
     man --warnings -l $page > /tmp/page 2> /tmp/said
@@ -125,6 +132,7 @@ cd /tmp
     ("the wheel's first examples", "python3 pip3", """
 pip3 install --quiet --no-cache-dir --disable-pip-version-check --target /tmp/site python/hojzmated-*.whl
 cd /tmp
+grep -q '^slab: LICENSE' site/hojzmated-*.dist-info/NOTICES
 PYTHONPATH=/tmp/site python3 -Bc 'import doctest, hojzmated, sys
 came = doctest.testmod(hojzmated)
 print(came, hojzmated.version(), hojzmated.__file__)

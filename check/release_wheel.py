@@ -15,6 +15,7 @@ import subprocess
 import tempfile
 import zipfile
 
+import notices
 import runner
 from runner import CC, TOP, Failed, text_of, write
 
@@ -33,6 +34,7 @@ Classifier: Private :: Do Not Upload
 Classifier: Programming Language :: Python :: 3 :: Only
 Classifier: Topic :: Database :: Database Engines/Servers
 Classifier: Typing :: Typed
+License-File: NOTICES
 Description-Content-Type: text/plain
 
 It wants a processor of {processor}.
@@ -161,6 +163,7 @@ def made(version, processor, prefix, pager, to):
     files = {
         **{f"hojzmated/{name}": text for name, text in sources.items()},
         **libraries,
+        f"{info}/NOTICES": notices.of("the libraries of this wheel", "hojzmated_c", has_rust=True).encode(),
         f"{info}/METADATA": METADATA.format(version=version, processor=processor, text=text).encode(),
         f"{info}/WHEEL": ("Wheel-Version: 1.0\nGenerator: check/release\nRoot-Is-Purelib: false\n"
                           + "".join(f"Tag: py3-none-{tag}\n" for tag in tags)).encode(),
