@@ -120,7 +120,9 @@ pub mod tree {
         }
     }
 
-    /// The child in which a key is, or the first word of its value.
+    /// The child in which a key is, or the first word of its value. Always inlined: else it hangs on the size of the
+    /// pager's functions beside it whether it is, and a look-up has a tenth more or fewer instructions.
+    #[inline(always)]
     pub fn search(node: &[u8], level: u32, key: u64) -> u64 {
         let at = |entry: usize| HEAD + entry * step(level);
         let (mut low, mut high) = (0, word(node, 8) as usize);
