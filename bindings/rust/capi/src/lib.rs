@@ -144,19 +144,17 @@ impl hz_pager_config {
         let (page_size, frames) = (self.page_size, self.frames);
         let default = match self.parts {
             0 => PagerConfig::new(pages, page_size, frames),
-            parts => PagerConfig::with_parts(pages, page_size, frames, parts),
+            parts => PagerConfig::in_parts(pages, page_size, frames, parts),
         };
-        PagerConfig {
-            correlated: period(self.correlated, default.correlated),
-            retained: period(self.retained, default.retained),
-            k: or(self.k, default.k),
-            tells_each_pin: self.tells_each_pin != 0,
-            pin_wait: match self.pin_wait_ms {
+        default
+            .with_correlated(period(self.correlated, default.correlated))
+            .with_retained(period(self.retained, default.retained))
+            .with_k(or(self.k, default.k))
+            .with_tells_each_pin(self.tells_each_pin != 0)
+            .with_pin_wait(match self.pin_wait_ms {
                 0 => default.pin_wait,
                 some => Duration::from_millis(some),
-            },
-            ..default
-        }
+            })
     }
 }
 

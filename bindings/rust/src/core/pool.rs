@@ -124,6 +124,7 @@ pub enum Saved {
 /// The counters of a [`Pool`]: the counts since it was made, and the present numbers of pages of
 /// each kind.
 #[derive(Clone, Copy, Debug, Default, PartialEq, Eq)]
+#[non_exhaustive]
 pub struct PoolStats {
     /// The counts since the pool was made.
     pub totals: Totals,
