@@ -630,7 +630,7 @@ impl Pool {
         let mut out = hz_stats::default();
         // SAFETY: the handle is free, and `out` may be written to. It is refused only where the
         // handle has no core.
-        let _ = unsafe { sys::hz_stats_of(self.core(), &mut out) };
+        let _ = unsafe { sys::hz_stats_of(self.core(), &mut out, size_of::<hz_stats>()) };
         PoolStats {
             totals: Totals {
                 hits: out.hits,
