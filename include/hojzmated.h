@@ -227,8 +227,9 @@ uint16_t hz_victim(const hz_core *core, uint64_t *page, uint8_t *has_page);
  * meanwhile may not be kept by that. */
 uint16_t hz_redo_from(const hz_core *core, uint64_t *lsn, uint8_t *has_lsn);
 
-/* Tells what was counted. */
-uint16_t hz_stats_of(const hz_core *core, hz_stats *out);
+/* Tells what was counted, to a struct of so many bytes: pass sizeof *out. Of a longer struct than the library has the
+ * rest gets zeros, and of a shorter one it tells what there is room for. */
+uint16_t hz_stats_of(const hz_core *core, hz_stats *out, size_t size);
 
 /* Tells whether a page is in a frame: is_resident gets 1 or 0. Refused: HZ_OUT_OF_PAGE where the page is not of the
  * file. */

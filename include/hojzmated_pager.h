@@ -2,7 +2,7 @@
  * latch on each page, which is a lock on that page alone. docs/C.md has an engine over it. The pools below it are
  * proved; what stands here is tested. A program links with libhojzmated_pager, which has all that it needs.
  *
- *     hz_pager_config config = {0};                all else has a default
+ *     hz_pager_config config = HZ_PAGER_CONFIG_INIT;  all else has a default
  *     config.pages = 1000, config.page_size = 4096, config.frames = 64;
  *     hz_pager_new_file(&config, fd, 1, &pager);   or hz_pager_new, with functions that read, write and sync
  *     hz_pager_fix(&pager, 7, HZ_EXCLUSIVE, &page);
@@ -110,8 +110,10 @@ typedef struct hz_ref {
 
 #define HZ_NO_PERIOD UINT64_MAX
 
-/* What a pager is made with. Name the fields: later versions may have more. A field of 0 has its default. */
+/* What a pager is made with. Begin with HZ_PAGER_CONFIG_INIT, and name the fields: later versions may have more. A
+ * field of 0 has its default. */
 typedef struct hz_pager_config {
+    size_t size;          /* of this struct: sizeof(hz_pager_config) */
     uint64_t pages;       /* of the file, from 0 on: 1 to 1,048,576 for each part. No default, but for a descriptor */
     size_t page_size;     /* 16 to 65,536 bytes, a multiple of 16. No default */
     size_t frames;        /* the most pages in memory: 1 to 65,536 for each part. No default */
@@ -128,6 +130,9 @@ typedef struct hz_pager_config {
                                zeros, up to these. Else it is refused */
 } hz_pager_config;
 
+/* A config whose fields have their defaults, but for the three that have none. */
+#define HZ_PAGER_CONFIG_INIT {sizeof(hz_pager_config), 0, 0, 0, 0, 0, 0, 0, 0, 0, 0, 0}
+
 /* What a read callback answers where it found another page than it was asked for, or a wrong checksum. */
 #define HZ_IO_WRONG_PAGE (-1)
 
@@ -140,6 +145,7 @@ typedef struct hz_pager_config {
  * A callback may call hz_pager_mark, hz_pager_put, hz_pager_unfix, and what only tells: hz_pager_redo_from,
  * hz_pager_stats_of, hz_pager_is_resident, hz_pager_fault_of, hz_pager_text. It may make any call on another pager. */
 typedef struct hz_io {
+    size_t size; /* of this struct: sizeof(hz_io) */
     void *own;
     /* Reads a page into the image. It answers HZ_IO_WRONG_PAGE where it finds another page there, or a wrong checksum.
      * After an error the image may hold anything. */
@@ -186,7 +192,9 @@ typedef struct hz_pager_stats {
  *
  *     HZ_NULL          also where a callback is null
  *     HZ_HAS_CORE
- *     HZ_BAD_SETTINGS, HZ_BAD_GEOMETRY  a field of the config is out of its limits
+ *     HZ_BAD_SETTINGS, HZ_BAD_GEOMETRY  a field of the config is out of its limits. The size of config and io too: it
+ *                      is none of a version of the header, or there are bytes that are not 0 where this library has no
+ *                      field. What they have not is 0
  *     HZ_VERSION_MISMATCH
  *     HZ_OUT_OF_MEMORY
  */
@@ -307,8 +315,9 @@ uint16_t hz_pager_purge(const hz_pager *pager, uint64_t *count);
  * Tells the least LSN of all puts that are in no image on the device, as hz_pager_checkpoint does. */
 uint16_t hz_pager_redo_from(const hz_pager *pager, uint64_t *lsn, uint8_t *has_lsn);
 
-/* Tells what was counted. */
-uint16_t hz_pager_stats_of(const hz_pager *pager, hz_pager_stats *out);
+/* Tells what was counted, to a struct of so many bytes: pass sizeof *out. Of a longer struct than the library has the
+ * rest gets zeros, and of a shorter one it tells what there is room for. */
+uint16_t hz_pager_stats_of(const hz_pager *pager, hz_pager_stats *out, size_t size);
 
 /* Tells whether a page is in a frame: *is_resident gets 1 or 0. Refused: HZ_OUT_OF_PAGE. */
 uint16_t hz_pager_is_resident(const hz_pager *pager, uint64_t page, uint8_t *is_resident);

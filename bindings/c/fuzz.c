@@ -528,11 +528,14 @@ static void try_redo_from(void)
 static void try_stats(void)
 {
     how h = picked(2);
+    size_t size = below(8) ? sizeof *stats : below(sizeof *stats + 1);
     memset(stats, ODD, sizeof *stats);
-    uint16_t number = noted(hz_stats_of(h.core, UNLESS(1, stats))), wanted = early(h, false);
+    uint16_t number = noted(hz_stats_of(h.core, UNLESS(1, stats), size)), wanted = early(h, false);
     hz_stats counts = model_stats();
     SAME(wanted, number);
-    SAME(true, wanted ? is_odd(stats, sizeof *stats) : !memcmp(stats, &counts, sizeof counts));
+    size = wanted ? 0 : size;
+    SAME(0, memcmp(stats, &counts, size));
+    SAME(true, is_odd((const uint8_t *)stats + size, sizeof *stats - size));
 }
 
 static void try_is_resident(void)
@@ -551,7 +554,7 @@ static void try_is_resident(void)
 static void look_at_all_that_is_told(void)
 {
     hz_stats counts = model_stats();
-    SAME(HZ_DONE, hz_stats_of(live, stats));
+    SAME(HZ_DONE, hz_stats_of(live, stats, sizeof *stats));
     SAME(0, memcmp(stats, &counts, sizeof counts));
     unsigned gone = model_next_victim();
     SAME(HZ_DONE, hz_victim(live, count, flag));

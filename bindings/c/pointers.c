@@ -7,6 +7,7 @@
  * This file is tested, by fuzz.c and peers/c/refusals.c, and not proved.
  */
 #include "hojzmated.h"
+#include <string.h>
 
 #define PROVED(name) extern __typeof__(name) proved_##name
 PROVED(hz_core_new);
@@ -28,7 +29,7 @@ PROVED(hz_page_lsn);
 PROVED(hz_next_unsaved);
 PROVED(hz_victim);
 PROVED(hz_redo_from);
-PROVED(hz_stats_of);
+extern uint16_t proved_hz_stats_of(const hz_core *core, hz_stats *out);
 PROVED(hz_is_resident);
 PROVED(hz_text);
 PROVED(hz_version);
@@ -205,9 +206,17 @@ uint16_t hz_redo_from(const hz_core *core, uint64_t *lsn, uint8_t *has_lsn)
     return number;
 }
 
-uint16_t hz_stats_of(const hz_core *core, hz_stats *out)
+uint16_t hz_stats_of(const hz_core *core, hz_stats *out, size_t size)
 {
-    return core && out ? proved_hz_stats_of(core, out) : HZ_NULL;
+    hz_stats own = {0};
+    if (!core || !out)
+        return HZ_NULL;
+    uint16_t number = proved_hz_stats_of(core, &own);
+    if (number == HZ_DONE) {
+        memset(out, 0, size);
+        memcpy(out, &own, size < sizeof own ? size : sizeof own);
+    }
+    return number;
 }
 
 uint16_t hz_is_resident(const hz_core *core, uint64_t page, uint8_t *is_resident)

@@ -7,7 +7,7 @@
 //! device is plain memory too. So the thread sanitizer finds each order between threads that the pager fails to give.
 use hojzmated::pthreads::{LATCH_WAITS, Mutex};
 use hojzmated::{
-    Error, PageIo, PageMut, PagePin, PagerError, ReadFault, PagerConfig, Pager, noted,
+    Error, PageIo, PageMut, PagePin, Pager, PagerConfig, PagerError, ReadFault, noted,
 };
 use std::cell::UnsafeCell;
 use std::sync::atomic::{AtomicU64, Ordering::Relaxed};
@@ -199,12 +199,10 @@ impl Numbers {
 
 fn round(number: usize, counts: &Counts) {
     let (threads, frames, parts, correlated) = ROUNDS[number % ROUNDS.len()];
-    let config = PagerConfig {
-        parts,
-        correlated,
-        pin_wait: Duration::from_secs(60),
-        ..PagerConfig::new(PAGES, SIZE, frames)
-    };
+    let config = PagerConfig::new(PAGES, SIZE, frames)
+        .with_parts(parts)
+        .with_correlated(correlated)
+        .with_pin_wait(Duration::from_secs(60));
     let device = Device {
         pages: plain([0; SIZE]),
         durable: AtomicU64::new(0),

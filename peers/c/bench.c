@@ -197,7 +197,7 @@ static void unfix(void)
 
 static void start(void)
 {
-    hz_pager_config config = {.pages = pages, .page_size = size, .frames = frames,
+    hz_pager_config config = {.size = sizeof config, .pages = pages, .page_size = size, .frames = frames,
                               .correlated = period ? period : HZ_NO_PERIOD, .k = (uint8_t)k};
     if (hz_pager_new_file(&config, filled_file(), 1, &pager))
         fail("the pager");
@@ -206,7 +206,7 @@ static void start(void)
 static struct counts counted(void)
 {
     hz_pager_stats stats;
-    if (hz_pager_stats_of(&pager, &stats))
+    if (hz_pager_stats_of(&pager, &stats, sizeof stats))
         fail("stats");
     return (struct counts){stats.hits, stats.faults, stats.writes, stats.unsaved};
 }
@@ -281,7 +281,7 @@ static void start(void)
 static struct counts counted(void)
 {
     hz_stats stats;
-    if (hz_stats_of(&core, &stats))
+    if (hz_stats_of(&core, &stats, sizeof stats))
         fail("stats");
     return (struct counts){stats.hits, stats.faults, stats.writes, stats.unsaved};
 }

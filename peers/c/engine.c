@@ -148,8 +148,8 @@ static void start(const char *folder)
 {
     struct record record;
     hz_ref page;
-    const hz_pager_config config = {.pages = PAGES, .page_size = SIZE, .frames = FRAMES};
-    const hz_io io = {&pages_fd, read_page, write_page, make_log_durable, sync_pages};
+    const hz_pager_config config = {.size = sizeof config, .pages = PAGES, .page_size = SIZE, .frames = FRAMES};
+    const hz_io io = {sizeof io, &pages_fd, read_page, write_page, make_log_durable, sync_pages};
     if (chdir(folder) || (pages_fd = open("pages", O_RDWR | O_CREAT, 0600)) < 0
         || (wal.fd = open("log", O_RDWR | O_CREAT, 0600)) < 0 || (acks_fd = open("acks", O_RDWR | O_CREAT, 0600)) < 0
         || ftruncate(pages_fd, (off_t)PAGES * SIZE))

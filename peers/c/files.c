@@ -200,7 +200,7 @@ static void failures(void)
     error = 0;
     holds(2, "\0\0\0\0\0\0\0\0\0\0\0\0\0\0\0");
     holds(1, "unsaved so far.");
-    SAME(0, hz_stats_of(&core, &stats));
+    SAME(0, hz_stats_of(&core, &stats, sizeof stats));
     SAME(3, stats.failed);
     SAME(1, stats.writes);
     stop();

@@ -9,7 +9,7 @@
 #include <unistd.h>
 
 static hz_pager pager; /* all zero: none yet */
-static hz_pager_config config;
+static hz_pager_config config = HZ_PAGER_CONFIG_INIT;
 
 static uint16_t add(uint64_t number)
 {

@@ -40,7 +40,7 @@ static void shut_down(void)
 
 int main(void)
 {
-    const hz_pager_config config = {.pages = PAGES, .page_size = SIZE, .frames = 8};
+    const hz_pager_config config = {.size = sizeof config, .pages = PAGES, .page_size = SIZE, .frames = 8};
     must(!atexit(shut_down), "no atexit");
     for (int i = 0; i < 2; i++) {
         hz_ref page;

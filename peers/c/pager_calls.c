@@ -50,8 +50,8 @@ static void nulls(void)
     SAME(HZ_NULL, hz_pager_redo_from(NULL, &number, &flag));
     SAME(HZ_NULL, hz_pager_redo_from(&pager, NULL, &flag));
     SAME(HZ_NULL, hz_pager_redo_from(&pager, &number, NULL));
-    SAME(HZ_NULL, hz_pager_stats_of(NULL, (hz_pager_stats[1]){{0}}));
-    SAME(HZ_NULL, hz_pager_stats_of(&pager, NULL));
+    SAME(HZ_NULL, hz_pager_stats_of(NULL, (hz_pager_stats[1]){{0}}, sizeof(hz_pager_stats)));
+    SAME(HZ_NULL, hz_pager_stats_of(&pager, NULL, sizeof(hz_pager_stats)));
     SAME(HZ_NULL, hz_pager_is_resident(NULL, 0, &flag));
     SAME(HZ_NULL, hz_pager_is_resident(&pager, 0, NULL));
     SAME(HZ_NULL, hz_pager_fault_of(NULL));
@@ -85,7 +85,7 @@ static void no_pager(void)
         SAME(HZ_NO_CORE, hz_pager_clean(&pager, 1, &count));
         SAME(HZ_NO_CORE, hz_pager_purge(&pager, &number));
         SAME(HZ_NO_CORE, hz_pager_redo_from(&pager, &number, &flag));
-        SAME(HZ_NO_CORE, hz_pager_stats_of(&pager, &stats));
+        SAME(HZ_NO_CORE, hz_pager_stats_of(&pager, &stats, sizeof stats));
         SAME(HZ_NO_CORE, hz_pager_is_resident(&pager, 0, &flag));
         SAYS("the handle has no pager");
         SAME(true, is_filled(&ref, sizeof ref, ODD) && is_filled(&stats, sizeof stats, ODD));
@@ -96,6 +96,51 @@ static void no_pager(void)
         SAME(HZ_HAS_CORE, hz_pager_new_file(&config, 0, 1, &pager));
         end(&pager);
     }
+}
+
+/* Structs of other versions: shorter ones, and longer ones, which may set only what is here. */
+static void sizes(void)
+{
+    struct {
+        hz_pager_config config;
+        uint64_t later[2];
+    } longer = {usual(), {0}};
+    struct {
+        hz_io io;
+        uint64_t later;
+    } further = {io, 0};
+    hz_pager pager = {0};
+    enum { OWN = sizeof(hz_pager_config) };
+    static const size_t wrong_sizes[] = {0, 8, OWN - 8, OWN + 4, 4104, SIZE_MAX};
+    for (size_t i = 0; i < sizeof wrong_sizes / sizeof *wrong_sizes; i++) {
+        longer.config.size = wrong_sizes[i];
+        REFUSED(HZ_BAD_SETTINGS, 0, 0, 0, 0, hz_pager_new(&longer.config, &io, &pager));
+        SAME(HZ_BAD_SETTINGS, hz_pager_new_file(&longer.config, -1, 1, &pager));
+    }
+    longer.config.size = sizeof longer, further.io.size = sizeof further;
+    SAME(HZ_DONE, hz_pager_new(&longer.config, &further.io, &pager));
+    hz_ref ref = fixed(&pager, 3, HZ_SHARED);
+    SAME(HZ_DONE, hz_pager_unfix(&ref));
+    struct {
+        hz_pager_stats stats;
+        uint64_t later;
+    } told;
+    memset(&told, ODD, sizeof told);
+    SAME(HZ_DONE, hz_pager_stats_of(&pager, &told.stats, sizeof told));
+    SAME(1, told.stats.faults);
+    SAME(0, told.later);
+    memset(&told, ODD, sizeof told);
+    SAME(HZ_DONE, hz_pager_stats_of(&pager, &told.stats, offsetof(hz_pager_stats, evictions)));
+    SAME(1, told.stats.faults);
+    SAME(true, is_filled(&told.stats.evictions, sizeof told - offsetof(hz_pager_stats, evictions), ODD));
+    SAME(HZ_DONE, hz_pager_stats_of(&pager, &told.stats, 0));
+    end(&pager);
+    longer.later[1] = 1;
+    REFUSED(HZ_BAD_SETTINGS, 0, 0, 0, 0, hz_pager_new(&longer.config, &io, &pager));
+    longer.later[1] = 0, further.later = 1;
+    REFUSED(HZ_BAD_SETTINGS, 0, 0, 0, 0, hz_pager_new(&longer.config, &further.io, &pager));
+    further.io.size = sizeof io - 8;
+    REFUSED(HZ_BAD_SETTINGS, 0, 0, 0, 0, hz_pager_new(&longer.config, &further.io, &pager));
 }
 
 static void settings(void)
@@ -123,7 +168,7 @@ static void settings(void)
         {16, 64, 4, 0, 0, 17, HZ_BAD_SETTINGS},
     };
     for (size_t i = 0; i < sizeof rows / sizeof *rows; i++) {
-        hz_pager_config config = {0};
+        hz_pager_config config = HZ_PAGER_CONFIG_INIT;
         config.pages = rows[i].pages, config.page_size = rows[i].page_size, config.frames = rows[i].frames;
         config.parts = rows[i].parts, config.correlated = rows[i].correlated, config.k = rows[i].k;
         uint16_t number = hz_pager_new(&config, &io, &pager);
@@ -219,7 +264,7 @@ static void discards(void)
     SAME(0, resident);
     SAME(HZ_DONE, hz_pager_redo_from(&pager, &lsn, &has_lsn));
     SAME(13, lsn);
-    SAME(HZ_DONE, hz_pager_stats_of(&pager, &stats));
+    SAME(HZ_DONE, hz_pager_stats_of(&pager, &stats, sizeof stats));
     SAME(2, stats.discards);
     SAME(1, stats.unsaved);
     SAME(HZ_DONE, hz_pager_checkpoint(&pager, &lsn, &has_lsn));
@@ -486,6 +531,7 @@ int main(void)
     in_thread(never_refused, NULL);
     nulls();
     no_pager();
+    sizes();
     settings();
     static const uint64_t periods[] = {HZ_NO_PERIOD, FRAMES};
     for (size_t i = 0; i < sizeof periods / sizeof *periods; i++) {

@@ -102,7 +102,7 @@ static void victims(void)
                 SAME(HZ_DONE, hz_pager_unfix(&ref));
             }
         SAME(true, (unlogged ? device.logs : device.writes) > 0);
-        SAME(HZ_DONE, hz_pager_stats_of(&pager, &stats));
+        SAME(HZ_DONE, hz_pager_stats_of(&pager, &stats, sizeof stats));
         SAME(1, stats.unsaved);
         SAME(0, stats.pinned);
         device.write_error = device.log_error = 0;
@@ -153,7 +153,7 @@ static void checkpoints(void)
     SAME(1, device.logs);
     SAME(1, device.syncs);
     hz_pager_stats stats;
-    SAME(HZ_DONE, hz_pager_stats_of(&pager, &stats));
+    SAME(HZ_DONE, hz_pager_stats_of(&pager, &stats, sizeof stats));
     SAME(1, stats.hits);
     SAME(2, stats.faults);
     SAME(0, stats.evictions + stats.failed + stats.pinned + stats.unsaved);
@@ -270,7 +270,7 @@ static void look_inside(void)
     SAME(HZ_IN_CALLBACK, hz_pager_purge(pager, &number));
     SAME(HZ_DONE, hz_pager_mark(pager, 1));
     SAME(HZ_DONE, hz_pager_redo_from(pager, &number, &flag));
-    SAME(HZ_DONE, hz_pager_stats_of(pager, &stats));
+    SAME(HZ_DONE, hz_pager_stats_of(pager, &stats, sizeof stats));
     SAME(HZ_DONE, hz_pager_is_resident(pager, 7, &flag));
     SAME(HZ_DONE, hz_pager_put(&held, 0, (const uint8_t *)"c", 1, 0));
     change(&beside, 7, 70, 0);
@@ -378,7 +378,7 @@ static void till_others_wait(void)
 {
     hz_pager_stats stats;
     do
-        SAME(HZ_DONE, hz_pager_stats_of(device.pager, &stats));
+        SAME(HZ_DONE, hz_pager_stats_of(device.pager, &stats, sizeof stats));
     while (stats.waits < THREADS - 1);
 }
 

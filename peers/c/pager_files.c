@@ -133,7 +133,7 @@ static int asked_by_another(const char *program)
 
 static int ask_as_another(void)
 {
-    const hz_pager_config config = {.page_size = SIZE, .frames = FRAMES};
+    const hz_pager_config config = {.size = sizeof config, .page_size = SIZE, .frames = FRAMES};
     hz_pager pager = {0};
     uint16_t number = hz_pager_new_file(&config, open("pager.pages", O_RDWR), 1, &pager);
     if (!number)

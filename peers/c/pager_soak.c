@@ -274,7 +274,7 @@ static void end(long growth)
     uint8_t has_lsn;
     hz_pager_stats stats;
     HAS_TO_BE(hz_pager_checkpoint(&pager, &lsn, &has_lsn) == HZ_DONE && !has_lsn, lsn);
-    HAS_TO_BE(hz_pager_stats_of(&pager, &stats) == HZ_DONE && !stats.unsaved && !stats.pinned, stats.pinned);
+    HAS_TO_BE(hz_pager_stats_of(&pager, &stats, sizeof stats) == HZ_DONE && !stats.unsaved && !stats.pinned, stats.pinned);
     HAS_TO_BE(stats.evictions && stats.failed && stats.discards == discards, stats.discards);
     for (int page = 0; page < LASTING; page++)
         for (int i = 0; i < WORDS; i++)
@@ -292,8 +292,8 @@ int main(int words, char **word)
     double seconds = words > 1 ? atof(word[1]) : 2;
     states = 1000 * (words > 2 ? strtoul(word[2], NULL, 10) : 1);
     pthread_t threads[THREADS + 2];
-    hz_io io = {places, read_page, write_page, make_log_durable, sync_device};
-    hz_pager_config config = {0};
+    hz_io io = {sizeof(hz_io), places, read_page, write_page, make_log_durable, sync_device};
+    hz_pager_config config = HZ_PAGER_CONFIG_INIT;
     config.pages = PAGES, config.page_size = SIZE, config.frames = FRAMES, config.parts = 4;
     config.pin_wait_ms = 60000;
     HAS_TO_BE(hz_pager_new(&config, &io, &pager) == HZ_DONE, 0);

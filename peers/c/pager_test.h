@@ -129,14 +129,14 @@ static inline int sync_device(void *own)
     return device.sync_error;
 }
 
-static const hz_io io = {&device, read_page, write_page, make_log_durable, sync_device};
+static const hz_io io = {sizeof(hz_io), &device, read_page, write_page, make_log_durable, sync_device};
 
 /* Else a page whose pass stays out for a while is fixed again without a lock. */
 static uint64_t period = HZ_NO_PERIOD;
 
 static inline hz_pager_config usual(void)
 {
-    hz_pager_config config = {0};
+    hz_pager_config config = HZ_PAGER_CONFIG_INIT;
     config.pages = PAGES;
     config.page_size = SIZE;
     config.frames = FRAMES;

@@ -180,7 +180,7 @@ static uint64_t end(struct part *part, hz_stats *stats)
         want(true, device(part, false, page, image), "the device");
         sum += image[1];
     }
-    want(0, hz_stats_of(&part->core, stats), "stats");
+    want(0, hz_stats_of(&part->core, stats, sizeof *stats), "stats");
     want(0, hz_core_free(&part->core), "core_free");
     pthread_mutex_unlock(&part->lock);
     return sum;

@@ -140,7 +140,7 @@ static void no_core(void)
     CALL(HZ_NO_CORE, hz_next_unsaved(&core, 0, &page));
     CALL(HZ_NO_CORE, hz_victim(&core, &count, &dirty));
     CALL(HZ_NO_CORE, hz_redo_from(&core, &count, &dirty));
-    CALL(HZ_NO_CORE, hz_stats_of(&core, &stats));
+    CALL(HZ_NO_CORE, hz_stats_of(&core, &stats, sizeof stats));
     CALL(HZ_NO_CORE, hz_is_resident(&core, 0, &dirty));
     CALL(HZ_NO_CORE, hz_core_free(&core));
     SAME(true, is_filled(image, sizeof image, ODD) && is_filled(&out, sizeof out, ODD));
@@ -211,8 +211,8 @@ static void nulls(void)
     CALL(HZ_NULL, hz_redo_from(NULL, &count, &dirty));
     CALL(HZ_NULL, hz_redo_from(&core, NULL, &dirty));
     CALL(HZ_NULL, hz_redo_from(&core, &count, NULL));
-    CALL(HZ_NULL, hz_stats_of(NULL, &stats));
-    CALL(HZ_NULL, hz_stats_of(&core, NULL));
+    CALL(HZ_NULL, hz_stats_of(NULL, &stats, sizeof stats));
+    CALL(HZ_NULL, hz_stats_of(&core, NULL, sizeof stats));
     CALL(HZ_NULL, hz_is_resident(NULL, 0, &dirty));
     CALL(HZ_NULL, hz_is_resident(&core, UINT64_MAX, NULL));
     SAME(true, is_filled(image, sizeof image, ODD) && is_filled(&out, sizeof out, ODD));
@@ -586,7 +586,7 @@ static void counts(void)
 {
     hz_stats stats;
     memset(&stats, ODD, sizeof stats);
-    CALL(HZ_DONE, hz_stats_of(&core, &stats));
+    CALL(HZ_DONE, hz_stats_of(&core, &stats, sizeof stats));
     SAME(1, stats.hits);
     SAME(4, stats.faults);
     SAME(2, stats.evictions);

@@ -107,7 +107,7 @@ static uint64_t made; /* pages, by hz_pager_new_page */
 
 static void start(void)
 {
-    hz_pager_config config = {.pages = FIRST + PAGES, .page_size = size, .frames = 2 * PAGES};
+    hz_pager_config config = {.size = sizeof config, .pages = FIRST + PAGES, .page_size = size, .frames = 2 * PAGES};
     int file = open("truncate.pages", O_RDWR | O_CREAT | O_TRUNC, 0600);
     if (file < 0 || ftruncate(file, (off_t)(FIRST + PAGES) * size) || hz_pager_new_file(&config, file, 1, &pager))
         fail("the pager");
@@ -136,7 +136,7 @@ static void drop(void)
 static struct counts counted(void)
 {
     hz_pager_stats stats;
-    if (hz_pager_stats_of(&pager, &stats))
+    if (hz_pager_stats_of(&pager, &stats, sizeof stats))
         fail("stats");
     return (struct counts){stats.resident, stats.unsaved, stats.faults - made, stats.writes};
 }

@@ -167,7 +167,7 @@ _FUNCTIONS = {
     "hz_tick": (_NUMBER, _CORE, _U8, _U64),
     "hz_discard": (_NUMBER, _CORE, _U8, _U64, ctypes.POINTER(_U8)),
     "hz_purge": (_NUMBER, _CORE, _U8, ctypes.POINTER(_U64)),
-    "hz_stats_of": (_NUMBER, _CORE, ctypes.POINTER(CoreStats)),
+    "hz_stats_of": (_NUMBER, _CORE, ctypes.POINTER(CoreStats), _SIZE),
     "hz_is_resident": (_NUMBER, _CORE, _U64, ctypes.POINTER(_U8)),
     "hz_text": (_SIZE, _NUMBER, _BYTES, _SIZE),
     "hz_version": (ctypes.c_uint32,),
@@ -186,10 +186,10 @@ class Ref(ctypes.Structure):
 
 
 class PagerConfig(ctypes.Structure):
-    _fields_ = [("pages", ctypes.c_uint64), ("page_size", ctypes.c_size_t), ("frames", ctypes.c_size_t),
-                ("parts", ctypes.c_size_t), ("correlated", ctypes.c_uint64), ("retained", ctypes.c_uint64),
-                ("pin_wait_ms", ctypes.c_uint64), ("k", ctypes.c_uint8), ("tells_each_pin", ctypes.c_uint8),
-                ("read_only", ctypes.c_uint8), ("grows", ctypes.c_uint8)]
+    _fields_ = [("size", ctypes.c_size_t), ("pages", ctypes.c_uint64), ("page_size", ctypes.c_size_t),
+                ("frames", ctypes.c_size_t), ("parts", ctypes.c_size_t), ("correlated", ctypes.c_uint64),
+                ("retained", ctypes.c_uint64), ("pin_wait_ms", ctypes.c_uint64), ("k", ctypes.c_uint8),
+                ("tells_each_pin", ctypes.c_uint8), ("read_only", ctypes.c_uint8), ("grows", ctypes.c_uint8)]
 
 
 class Fault(ctypes.Structure):
@@ -216,7 +216,7 @@ _PAGER_FUNCTIONS = {
     "hz_pager_checkpoint": (_NUMBER, _PAGER, ctypes.POINTER(_U64), ctypes.POINTER(_U8)),
     "hz_pager_clean": (_NUMBER, _PAGER, _SIZE, ctypes.POINTER(_SIZE)),
     "hz_pager_purge": (_NUMBER, _PAGER, ctypes.POINTER(_U64)),
-    "hz_pager_stats_of": (_NUMBER, _PAGER, ctypes.POINTER(PagerCounts)),
+    "hz_pager_stats_of": (_NUMBER, _PAGER, ctypes.POINTER(PagerCounts), _SIZE),
     "hz_pager_is_resident": (_NUMBER, _PAGER, _U64, ctypes.POINTER(_U8)),
     "hz_pager_fault_of": (_NUMBER, ctypes.POINTER(Fault)),
     "hz_pager_text": (_SIZE, ctypes.c_char_p, _SIZE),

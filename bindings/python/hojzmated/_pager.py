@@ -294,9 +294,10 @@ class Pager:
                  correlated: Optional[SupportsIndex] = None, retained: Optional[SupportsIndex] = None,
                  parts: SupportsIndex = 0, pin_wait: float = 10.0, format: SupportsIndex = Format.PLAIN) -> None:
         config = PagerConfig(
-            pages=number_of("pages", pages or 0), page_size=number_of("page_size", page_size),
-            frames=number_of("frames", frames), parts=number_of("parts", parts), correlated=_period(correlated),
-            retained=_period(retained), pin_wait_ms=max(1, int(pin_wait * 1000)), k=number_of("k", k, BYTE), grows=1)
+            size=ctypes.sizeof(PagerConfig), pages=number_of("pages", pages or 0),
+            page_size=number_of("page_size", page_size), frames=number_of("frames", frames),
+            parts=number_of("parts", parts), correlated=_period(correlated), retained=_period(retained),
+            pin_wait_ms=max(1, int(pin_wait * 1000)), k=number_of("k", k, BYTE), grows=1)
         format = number_of("format", format, 1 << 31)
         self._library, self._pager, self._path, self._pin_wait = pager_library(), PagerHandle(), path, pin_wait
         self._process, self._is_of_parent = os.getpid(), False
@@ -550,7 +551,7 @@ class Pager:
     def stats(self) -> PagerStats:
         """Returns the counts since the pager was made, and the present numbers of pages."""
         stats = PagerCounts()
-        self._call("hz_pager_stats_of", self._pager, stats)
+        self._call("hz_pager_stats_of", self._pager, stats, ctypes.sizeof(stats))
         return PagerStats(*(getattr(stats, name) for name in PagerStats._fields))
 
     # ---- The end

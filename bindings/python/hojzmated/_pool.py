@@ -181,7 +181,7 @@ class Pool:
         """Returns the counts since the pool was made, and the present numbers of resident and of pinned pages."""
         stats = CoreStats()
         with self._lock:
-            check(hz.hz_stats_of(self._core, stats))
+            check(hz.hz_stats_of(self._core, stats, ctypes.sizeof(stats)))
         return Stats(*(getattr(stats, name) for name in Stats._fields))
 
     def close(self) -> None:

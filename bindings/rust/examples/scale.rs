@@ -83,10 +83,7 @@ fn main() -> Outcome {
     let parts = numbers.next().transpose()?.unwrap_or(64);
     let page_size = numbers.next().transpose()?.unwrap_or(64);
     let (frames, pages) = (parts * 65_536, parts as u64 * 1_048_576);
-    let config = PagerConfig {
-        parts,
-        ..PagerConfig::new(pages, page_size, frames)
-    };
+    let config = PagerConfig::new(pages, page_size, frames).with_parts(parts);
     let began = resident()?;
     let pager = Pager::new(&config, Zeros)?;
     println!("before: {began} bytes in memory");

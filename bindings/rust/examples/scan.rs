@@ -272,7 +272,7 @@ fn run(
 }
 
 fn settings() -> PagerConfig {
-    PagerConfig::with_parts(PAGES, SIZE, FRAMES, PARTS)
+    PagerConfig::in_parts(PAGES, SIZE, FRAMES, PARTS)
 }
 
 /// The pages that must be read for look-ups beside scans.
@@ -292,12 +292,10 @@ fn beside_look_ups(length: Duration) -> Outcome<()> {
         (1, 0, 8 * frames, "8 times"),
     ];
     for (k, correlated, retained, name) in rows {
-        let config = PagerConfig {
-            k,
-            correlated,
-            retained,
-            ..settings()
-        };
+        let config = settings()
+            .with_k(k)
+            .with_correlated(correlated)
+            .with_retained(retained);
         let pages = Pages {
             source: Source::Memory,
             most: 1,
@@ -379,10 +377,7 @@ fn purges() -> Outcome<()> {
 
 /// Measures how long calls take, with this memory of pages that are away.
 fn calls(name: &str, retained: u64) -> Outcome<()> {
-    let config = PagerConfig {
-        retained,
-        ..PagerConfig::with_parts(MANY, 64, 1 << 16, 1)
-    };
+    let config = PagerConfig::in_parts(MANY, 64, 1 << 16, 1).with_retained(retained);
     let pager = Pager::new(&config, Nothing)?;
     let mut times = Vec::with_capacity(MANY as usize);
     for page in 0..MANY {

@@ -4,6 +4,7 @@ use crate::{Error, core::Pool};
 
 /// The counts since the pool was made.
 #[derive(Clone, Copy, Debug, Default, PartialEq, Eq)]
+#[non_exhaustive]
 pub struct Totals {
     /// Fixes that found their page in a frame.
     pub hits: u64,
@@ -42,6 +43,7 @@ impl Totals {
 
 /// A page with writes that are in no image on the device.
 #[derive(Clone, Copy, Debug, PartialEq, Eq)]
+#[non_exhaustive]
 pub struct UnsavedPage {
     /// The number of the page.
     pub page: u64,

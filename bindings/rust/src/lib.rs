@@ -51,6 +51,9 @@
     clippy::expect_used
 )]
 
+#[macro_use]
+mod setters;
+
 pub mod core;
 mod counts;
 mod error;

@@ -125,10 +125,7 @@ fn panic_ends_a_look() {
 #[test]
 fn looks_where_the_trail_is_full() {
     let room = 3;
-    let config = Config {
-        room,
-        ..Config::new(16, 16, 1)
-    };
+    let config = Config::new(16, 16, 1).with_room(room);
     let pool = Pool::new(&config).unwrap();
     let Fixed::Load { ticket, .. } = pool.fix(0, 1, &mut [0; 16]).unwrap() else {
         panic!("page 1 is away");

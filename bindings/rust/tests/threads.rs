@@ -10,10 +10,7 @@ const THREADS: u8 = 2;
 const ROUNDS: u64 = 5_000;
 
 fn config() -> Config {
-    Config {
-        clients: THREADS,
-        ..Config::new(PAGES, SIZE, 8)
-    }
+    Config::new(PAGES, SIZE, 8).with_clients(THREADS)
 }
 
 /// The LSN of a page's newest write is its first word, and a counter its second.

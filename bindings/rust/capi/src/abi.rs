@@ -19,6 +19,7 @@ pub struct hz_ref {
 
 #[repr(C)]
 pub struct hz_pager_config {
+    pub size: usize,
     pub pages: u64,
     pub page_size: usize,
     pub frames: usize,
@@ -35,6 +36,7 @@ pub struct hz_pager_config {
 #[repr(C)]
 #[derive(Clone, Copy)]
 pub struct hz_io {
+    pub size: usize,
     pub own: *mut c_void,
     pub read: Option<unsafe extern "C" fn(*mut c_void, u64, *mut u8, usize) -> c_int>,
     pub write: Option<unsafe extern "C" fn(*mut c_void, u64, *mut u8, usize, u64) -> c_int>,

@@ -40,6 +40,7 @@ unsafe impl Send for Handle {}
 
 fn make_pager(handle: Handle, round: u64) {
     let config = hz_pager_config {
+        size: size_of::<hz_pager_config>(),
         pages: 16,
         page_size: 64,
         frames: 16,
@@ -54,6 +55,7 @@ fn make_pager(handle: Handle, round: u64) {
         grows: 0,
     };
     let io = hz_io {
+        size: size_of::<hz_io>(),
         own: ptr::null_mut(),
         read: Some(read),
         write: Some(write),
@@ -141,8 +143,10 @@ pub fn linger() {
 
 fn pinned(handle: Handle) -> usize {
     let mut stats = hz_pager_stats::default();
+    let size = size_of::<hz_pager_stats>();
     // SAFETY: all pointers lead to what their types say.
-    assert_eq!(unsafe { hz_pager_stats_of(handle.0, &mut stats) }, 0);
+    let told = unsafe { hz_pager_stats_of(handle.0, &mut stats, size) };
+    assert_eq!(told, 0);
     stats.pinned
 }
 

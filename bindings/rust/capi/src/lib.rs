@@ -23,6 +23,7 @@ mod fault;
 #[allow(clippy::unwrap_used)]
 mod header;
 mod held;
+mod sized;
 
 use abi::*;
 use device::{Callbacks, Device, PageFile, is_inside, with_scratch};
@@ -144,19 +145,19 @@ impl hz_pager_config {
         let (page_size, frames) = (self.page_size, self.frames);
         let default = match self.parts {
             0 => PagerConfig::new(pages, page_size, frames),
-            parts => PagerConfig::with_parts(pages, page_size, frames, parts),
+            parts => PagerConfig::in_parts(pages, page_size, frames, parts),
         };
-        PagerConfig {
-            correlated: period(self.correlated, default.correlated),
-            retained: period(self.retained, default.retained),
-            k: or(self.k, default.k),
-            tells_each_pin: self.tells_each_pin != 0,
-            pin_wait: match self.pin_wait_ms {
-                0 => default.pin_wait,
+        let (correlated, retained) = (default.correlated, default.retained);
+        let (k, pin_wait) = (default.k, default.pin_wait);
+        default
+            .with_correlated(period(self.correlated, correlated))
+            .with_retained(period(self.retained, retained))
+            .with_k(or(self.k, k))
+            .with_tells_each_pin(self.tells_each_pin != 0)
+            .with_pin_wait(match self.pin_wait_ms {
+                0 => pin_wait,
                 some => Duration::from_millis(some),
-            },
-            ..default
-        }
+            })
     }
 }
 
@@ -196,9 +197,12 @@ pub unsafe extern "C" fn hz_pager_new(
     pager: *mut hz_pager,
 ) -> u16 {
     answer(|| {
+        if config.is_null() || io.is_null() || pager.is_null() {
+            return Err(refusal(HZ_NULL));
+        }
         // SAFETY: as the header says.
-        let (config, io) = unsafe { (given(config)?, given(io)?) };
-        let callbacks = Callbacks::new(io).ok_or_else(|| refusal(HZ_NULL))?;
+        let (config, io) = unsafe { (sized::given(config)?, sized::given(io)?) };
+        let callbacks = Callbacks::new(&io).ok_or_else(|| refusal(HZ_NULL))?;
         // SAFETY: as the header says.
         let handle = unsafe { empty(pager) }?;
         make(
@@ -217,10 +221,13 @@ pub unsafe extern "C" fn hz_pager_new_file(
     pager: *mut hz_pager,
 ) -> u16 {
     answer(|| {
+        if config.is_null() || pager.is_null() {
+            return Err(refusal(HZ_NULL));
+        }
         // SAFETY: as the header says.
-        let (config, handle) = unsafe { (given(config)?, empty(pager)?) };
+        let (config, handle) = unsafe { (sized::given(config)?, empty(pager)?) };
         // SAFETY: a file of the descriptor is open till after `hz_pager_free`.
-        let file = unsafe { PageFile::new(fd, format, config) }?;
+        let file = unsafe { PageFile::new(fd, format, &config) }?;
         let pages = or(config.pages, file.pages());
         make(&config.settings(pages), Device::File(file), handle)
     })
@@ -577,12 +584,13 @@ pub unsafe extern "C" fn hz_pager_redo_from(
 pub unsafe extern "C" fn hz_pager_stats_of(
     pager: *const hz_pager,
     out: *mut hz_pager_stats,
+    size: usize,
 ) -> u16 {
     answer(|| {
         // SAFETY: as the header says.
         let (out, pager) = unsafe { (to(out)?, pager_of(pager)?) };
         let stats = pager.stats();
-        out.put(hz_pager_stats {
+        let told = hz_pager_stats {
             hits: stats.totals.hits,
             faults: stats.totals.faults,
             evictions: stats.totals.evictions,
@@ -595,7 +603,9 @@ pub unsafe extern "C" fn hz_pager_stats_of(
             pinned: stats.pinned,
             unsaved: stats.unsaved,
             memory: stats.memory,
-        });
+        };
+        // SAFETY: as the header says.
+        unsafe { sized::put(out.0, size, &told) };
         Ok(())
     })
 }

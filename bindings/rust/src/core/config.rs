@@ -2,15 +2,17 @@
 
 /// The settings of a pool.
 ///
-/// [`Config::new`] sets all fields for a pool over a file, and each field may be changed:
+/// [`Config::new`] sets all fields for a pool over a file, and each may be changed. Later versions may have more.
 ///
 /// ```
 /// use hojzmated::core::Config;
 ///
-/// let config = Config { k: 3, clients: 2, ..Config::new(10_000, 4096, 500) };
+/// let config = Config::new(10_000, 4096, 500).with_k(3).with_clients(2);
 /// assert_eq!((config.pages, config.page_size, config.frames), (10_000, 4096, 500));
+/// assert_eq!((config.k, config.clients), (3, 2));
 /// ```
 #[derive(Clone, Debug, PartialEq, Eq)]
+#[non_exhaustive]
 pub struct Config {
     /// The number of pages of the file, which are numbered from 0: 1 to 1,048,576.
     pub pages: u64,
@@ -56,4 +58,16 @@ impl Config {
             clients: 1,
         }
     }
+}
+
+setters! {
+    Config:
+    with_pages pages: u64,
+    with_page_size page_size: usize,
+    with_frames frames: usize,
+    with_room room: usize,
+    with_correlated correlated: u64,
+    with_retained retained: u64,
+    with_k k: u8,
+    with_clients clients: u8,
 }

@@ -124,6 +124,7 @@ pub enum Saved {
 /// The counters of a [`Pool`]: the counts since it was made, and the present numbers of pages of
 /// each kind.
 #[derive(Clone, Copy, Debug, Default, PartialEq, Eq)]
+#[non_exhaustive]
 pub struct PoolStats {
     /// The counts since the pool was made.
     pub totals: Totals,
@@ -629,7 +630,7 @@ impl Pool {
         let mut out = hz_stats::default();
         // SAFETY: the handle is free, and `out` may be written to. It is refused only where the
         // handle has no core.
-        let _ = unsafe { sys::hz_stats_of(self.core(), &mut out) };
+        let _ = unsafe { sys::hz_stats_of(self.core(), &mut out, size_of::<hz_stats>()) };
         PoolStats {
             totals: Totals {
                 hits: out.hits,

@@ -7,20 +7,19 @@ use std::time::Duration;
 
 /// The settings of a [`Pager`](crate::Pager).
 ///
-/// [`PagerConfig::new`] sets all fields for a pager over a file, and each field may be changed:
+/// [`PagerConfig::new`] sets all fields for a pager over a file, and each may be changed. Later versions may have
+/// more.
 ///
 /// ```
 /// use hojzmated::PagerConfig;
 /// use std::time::Duration;
 ///
-/// let config = PagerConfig {
-///     parts: 4,
-///     pin_wait: Duration::from_secs(1),
-///     ..PagerConfig::new(10_000, 4096, 1_000)
-/// };
+/// let config = PagerConfig::new(10_000, 4096, 1_000).with_parts(4).with_pin_wait(Duration::from_secs(1));
 /// assert_eq!((config.pages, config.page_size, config.frames), (10_000, 4096, 1_000));
+/// assert_eq!((config.parts, config.pin_wait.as_secs()), (4, 1));
 /// ```
 #[derive(Clone, Debug, PartialEq, Eq)]
+#[non_exhaustive]
 pub struct PagerConfig {
     /// The number of pages of the file, which are numbered from 0: 1 to 1,048,576 for each part, so
     /// at most 67,108,864.
@@ -117,11 +116,11 @@ impl PagerConfig {
         let parts = power_below(useful).max(wanted.min(MOST_PARTS).next_power_of_two());
         let even = power_below(possible);
         let most = if wanted > even { possible } else { even };
-        PagerConfig::with_parts(pages, page_size, frames, parts.min(most))
+        PagerConfig::in_parts(pages, page_size, frames, parts.min(most))
     }
 
     /// The same with so many parts: it does not ask the system for the number of processors.
-    pub const fn with_parts(
+    pub const fn in_parts(
         pages: u64,
         page_size: usize,
         frames: usize,
@@ -166,4 +165,19 @@ impl PagerConfig {
             clients: 1,
         })
     }
+}
+
+setters! {
+    PagerConfig:
+    with_pages pages: u64,
+    with_page_size page_size: usize,
+    with_frames frames: usize,
+    with_parts parts: usize,
+    with_correlated correlated: u64,
+    with_tells_each_pin tells_each_pin: bool,
+    with_retained retained: u64,
+    with_k k: u8,
+    with_temporary temporary: Range<u64>,
+    with_notes_latches notes_latches: bool,
+    with_pin_wait pin_wait: Duration,
 }

@@ -478,7 +478,7 @@ mod tests {
         let config = PagerConfig {
             correlated: 0,
             pin_wait: Duration::from_millis(20),
-            ..PagerConfig::with_parts(8, 64, 1, 1)
+            ..PagerConfig::in_parts(8, 64, 1, 1)
         };
         Pager::new(&config, Numbered).unwrap()
     }

@@ -15,6 +15,7 @@ use std::{io, mem};
 /// The counters of a [`Pager`]. While other threads use it, each part is counted at a
 /// different moment.
 #[derive(Clone, Copy, Debug, Default, PartialEq, Eq)]
+#[non_exhaustive]
 pub struct Stats {
     /// The counts since the pager was made, approximately. A pin of a page that was pinned already
     /// is a hit, which may be counted only when the page is unpinned. A new page is counted as a

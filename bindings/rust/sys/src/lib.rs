@@ -147,7 +147,7 @@ unsafe extern "C" {
     pub fn hz_next_unsaved(core: *mut hz_core, from: u64, out: *mut hz_unsaved) -> u16;
     pub fn hz_victim(core: *mut hz_core, page: *mut u64, has_page: *mut u8) -> u16;
     pub fn hz_redo_from(core: *mut hz_core, lsn: *mut u64, has_lsn: *mut u8) -> u16;
-    pub fn hz_stats_of(core: *mut hz_core, out: *mut hz_stats) -> u16;
+    pub fn hz_stats_of(core: *mut hz_core, out: *mut hz_stats, size: usize) -> u16;
     pub fn hz_is_resident(core: *mut hz_core, page: u64, is_resident: *mut u8) -> u16;
     pub fn hz_text(number: u16, into: *mut u8, len: usize) -> usize;
     pub safe fn hz_version() -> u32;

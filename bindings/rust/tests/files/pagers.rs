@@ -295,10 +295,7 @@ fn what_is_read_alone_stays() -> Outcome {
             .layout(layout)
             .read_only(true)
             .open(&path)?;
-        let config = PagerConfig {
-            parts: 1,
-            ..pages.config(4)
-        };
+        let config = pages.config(4).with_parts(1);
         let pager = Pager::new(&config, pages.without_log())?;
         assert_eq!(pager.checkpoint()?, None);
         pager.write(2)?.put(0, b"two", 0)?;

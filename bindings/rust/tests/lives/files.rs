@@ -46,12 +46,10 @@ pub fn stamp(page: u64, image: &mut [u8], lsn: u64) {
 
 impl Shape {
     pub fn config(&self) -> PagerConfig {
-        PagerConfig {
-            parts: self.parts,
-            temporary: self.temporary.clone(),
-            correlated: self.correlated,
-            ..PagerConfig::new(self.pages, self.size, self.frames)
-        }
+        PagerConfig::new(self.pages, self.size, self.frames)
+            .with_parts(self.parts)
+            .with_temporary(self.temporary.clone())
+            .with_correlated(self.correlated)
     }
 }
 

@@ -39,11 +39,9 @@ fn again<T>(times: &Cell<u32>, call: impl Fn() -> Result<T, PagerError>) -> T {
 
 /// Four pages of 16 bytes, in so many parts and as many frames.
 fn config(parts: usize) -> PagerConfig {
-    PagerConfig {
-        parts,
-        correlated: 0,
-        ..PagerConfig::new(4, 16, parts)
-    }
+    PagerConfig::new(4, 16, parts)
+        .with_parts(parts)
+        .with_correlated(0)
 }
 
 fn pager(parts: usize) -> Pager<Memory> {
@@ -152,10 +150,7 @@ fn image_without_memory() {
     let mut refused = 0;
     loop {
         let pager = Rc::new_cyclic(|weak| {
-            let config = PagerConfig {
-                frames: 2,
-                ..config(1)
-            };
+            let config = config(1).with_frames(2);
             Pager::new(&config, Nested(weak.clone(), Cell::default())).unwrap()
         });
         let (told, has_come) = refusing(refused + 1, || pager.read(1).map(|page| page[0]));
@@ -203,7 +198,7 @@ fn use_pages_of(pager: &Pager<Memory>) {
 #[test]
 fn what_a_page_number_takes() {
     let asked = |pages| {
-        let (config, before) = (PagerConfig::with_parts(pages, 16, 4, 4), ASKED.get());
+        let (config, before) = (PagerConfig::in_parts(pages, 16, 4, 4), ASKED.get());
         let memory = Memory(RefCell::new([[0; 16]; 4]));
         drop(Pager::new(&config, memory).unwrap());
         ASKED.get() - before

@@ -172,11 +172,9 @@ fn page_of_a_row_that_came_and_went() {
 fn pagers_with_old_bytes() -> impl Iterator<Item = Shared> {
     let periods = [(0, false), (4, false), (4, true)];
     periods.into_iter().map(|(correlated, tells_each_pin)| {
-        let config = PagerConfig {
-            correlated,
-            tells_each_pin,
-            ..config(4)
-        };
+        let config = config(4)
+            .with_correlated(correlated)
+            .with_tells_each_pin(tells_each_pin);
         let pager = Pager::new(&config, Device::default()).unwrap();
         pager.io().pages.lock().unwrap()[3] = [0xaa; SIZE];
         Arc::new(pager)
@@ -307,7 +305,7 @@ fn panic_before_the_first_read() {
 // Of more than 4,096 that wait the others are left out. None of them is read twice.
 #[test]
 fn many_pages_wait() {
-    let config = PagerConfig::with_parts(1 << 20, SIZE, 8, 1);
+    let config = PagerConfig::in_parts(1 << 20, SIZE, 8, 1);
     let gate = Arc::new(Gate::default());
     struct Stops(Arc<Gate>);
     impl PageIo for Stops {
@@ -386,10 +384,7 @@ impl PageIo for Rows {
 
 /// A pager of three parts over such a device, whose pages have their numbers.
 fn pager_of_rows(frames: usize) -> Arc<Pager<Rows>> {
-    let config = PagerConfig {
-        parts: 3,
-        ..config(frames)
-    };
+    let config = config(frames).with_parts(3);
     let rows = Rows::default();
     for (number, page) in rows.device.pages.lock().unwrap().iter_mut().enumerate() {
         page.fill(number as u8);
@@ -420,10 +415,7 @@ fn rows_of_pages() {
 #[test]
 fn row_that_is_begun_writes_nothing() {
     for correlated in 0..4 {
-        let config = PagerConfig {
-            correlated,
-            ..config(4)
-        };
+        let config = config(4).with_correlated(correlated);
         let pager = Arc::new(Pager::new(&config, Rows::default()).unwrap());
         for page in [0, 1] {
             pager.write(page).unwrap().put(0, &[9], 0).unwrap();
@@ -538,10 +530,7 @@ fn page_that_has_to_make_way() {
 /// In four frames: page 1 by `ahead` and then a look at it, page 2 twice, and pages 3 and 4 once. It
 /// returns which of 1 and 3 makes way for page 5.
 fn who_makes_way(correlated: u64, ahead: impl Fn(&Shared)) -> u64 {
-    let config = PagerConfig {
-        correlated,
-        ..config(4)
-    };
+    let config = config(4).with_correlated(correlated);
     let pager = Arc::new(Pager::new(&config, Device::default()).unwrap());
     let _readers = pager.start_readers(1).unwrap();
     ahead(&pager);
@@ -676,10 +665,7 @@ fn scan_until(pager: &Pager<Rows>, is_over: &AtomicBool) {
 fn scans_beside_writers() {
     let _watch = Watch::over("scans_beside_writers", 300);
     for (correlated, frames) in [(0, 9), (1, 9), (3, 12)] {
-        let config = PagerConfig {
-            correlated,
-            ..config(frames)
-        };
+        let config = config(frames).with_correlated(correlated);
         let rows = Rows::default();
         let pager = &Arc::new(Pager::new(&config, rows).unwrap());
         let readers = pager.start_readers(3).unwrap();

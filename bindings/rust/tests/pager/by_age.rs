@@ -1,6 +1,6 @@
 //! Which pages are unsaved, and what is written out by age or as a list: neighbours in one write.
 use crate::device::{Asked, Device, Gate, PAGES, SIZE, Watch, config, pager, put};
-use hojzmated::{Error, PageIo, Pager, PagerConfig, PagerError, ReadFault, UnsavedPage};
+use hojzmated::{Error, PageIo, Pager, PagerError, ReadFault};
 use std::io;
 use std::sync::atomic::{AtomicBool, AtomicU64, Ordering};
 use std::sync::{Arc, Mutex};
@@ -74,10 +74,7 @@ impl PageIo for Rows {
 
 /// A pager with three parts and a frame for each page, over such a device.
 fn pager_of_rows(most: usize) -> Pager<Rows> {
-    let config = PagerConfig {
-        parts: 3,
-        ..config(24)
-    };
+    let config = config(24).with_parts(3);
     Pager::new(&config, Rows::of(most)).unwrap()
 }
 
@@ -289,10 +286,7 @@ fn writes_beside_a_row() {
 #[test]
 fn rows_beside_threads_with_latches() {
     let _watch = Watch::over("rows_beside_threads_with_latches", 300);
-    let config = PagerConfig {
-        pin_wait: Duration::from_secs(60),
-        ..config(9)
-    };
+    let config = config(9).with_pin_wait(Duration::from_secs(60));
     let pager = &Pager::new(&config, Rows::of(6)).unwrap();
     let (added, is_over) = (&AtomicU64::new(0), &AtomicBool::new(false));
     thread::scope(|threads| {
@@ -334,22 +328,16 @@ fn rows_beside_threads_with_latches() {
 
 #[test]
 fn unsaved_pages_and_their_records() {
-    let config = PagerConfig {
-        parts: 3,
-        ..config(12)
-    };
+    let config = config(12).with_parts(3);
     let pager = Pager::new(&config, Device::default()).unwrap();
     assert_eq!(pager.unsaved(), Ok(vec![]));
     for (page, lsn) in [(7, 3), (1, 5), (2, 0), (1, 9), (8, 4)] {
         put(&pager, page, 1, lsn);
     }
     pager.flush(8).unwrap();
-    let unsaved = [(1, 9, 5), (2, 0, 0), (7, 3, 3)].map(|(page, lsn, first_lsn)| UnsavedPage {
-        page,
-        lsn,
-        first_lsn,
-    });
-    assert_eq!(pager.unsaved(), Ok(unsaved.to_vec()));
+    let unsaved = pager.unsaved().unwrap();
+    let told = unsaved.iter().map(|it| (it.page, it.lsn, it.first_lsn));
+    assert!(told.eq([(1, 9, 5), (2, 0, 0), (7, 3, 3)]), "{unsaved:?}");
 }
 
 // Page 1 has an old record and a new one, page 2 none, page 3 a new one, page 4 one that is just as new

@@ -124,15 +124,8 @@ fn counts() {
     drop(pager.read(3).unwrap());
     let stats = pager.stats();
     // The second pin of page 1 is counted once the page is unpinned.
-    let totals = Totals {
-        hits: 1,
-        faults: 3,
-        evictions: 1,
-        writes: 0,
-        failed: 0,
-        refused: 0,
-        discards: 0,
-    };
+    let mut totals = Totals::default();
+    (totals.hits, totals.faults, totals.evictions) = (1, 3, 1);
     assert_eq!(stats.totals, totals);
     let few = (stats.resident, stats.pinned, stats.unsaved, stats.waits);
     assert_eq!(few, (2, 1, 1, 0));
@@ -175,7 +168,7 @@ fn forty_pins_of_a_page() {
 #[test]
 fn parts() {
     for parts in [1, 2, 3, 4, 7] {
-        let config = PagerConfig { parts, ..config(7) };
+        let config = config(7).with_parts(parts);
         let pager = Pager::new(&config, Device::default()).unwrap();
         assert_eq!(pager.config(), &config);
         for page in 0..PAGES {
@@ -200,14 +193,8 @@ fn defaults() {
         let made = Pager::new(&config, Device::default()).map(drop);
         assert_eq!(made, Ok(()), "{config:?}");
     }
-    let given = PagerConfig::with_parts(100, 4096, 50, 7);
-    assert_eq!(
-        PagerConfig {
-            parts: 7,
-            ..PagerConfig::new(100, 4096, 50)
-        },
-        given
-    );
+    let given = PagerConfig::in_parts(100, 4096, 50, 7);
+    assert_eq!(PagerConfig::new(100, 4096, 50).with_parts(7), given);
     let config = PagerConfig::new(100, 4096, 50);
     assert_eq!((config.parts, config.correlated, config.k), (1, 6, 2));
     assert_eq!(config.pin_wait, Duration::from_secs(10));

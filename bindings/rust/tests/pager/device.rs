@@ -116,11 +116,9 @@ impl PageIo for Device {
 
 /// One part with so many frames, and no correlated period.
 pub fn config(frames: usize) -> PagerConfig {
-    PagerConfig {
-        parts: 1,
-        correlated: 0,
-        ..PagerConfig::new(PAGES, SIZE, frames)
-    }
+    PagerConfig::new(PAGES, SIZE, frames)
+        .with_parts(1)
+        .with_correlated(0)
 }
 
 pub fn pager(frames: usize) -> Pager<Device> {

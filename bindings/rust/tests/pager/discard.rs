@@ -1,6 +1,6 @@
 //! Pages that are dropped unwritten.
 use crate::device::{Asked, Device, PAGES, SIZE, Watch, config, pager, put};
-use hojzmated::{Error, Pager, PagerConfig, PagerError};
+use hojzmated::{Error, Pager, PagerError};
 use std::sync::atomic::{AtomicBool, Ordering};
 use std::sync::mpsc::channel;
 use std::thread;
@@ -14,10 +14,7 @@ fn refusal<T: std::fmt::Debug>(result: Result<T, PagerError>) -> Error {
 }
 
 fn with_period(frames: usize, correlated: u64) -> Pager<Device> {
-    let config = PagerConfig {
-        correlated,
-        ..config(frames)
-    };
+    let config = config(frames).with_correlated(correlated);
     Pager::new(&config, Device::default()).unwrap()
 }
 
@@ -101,15 +98,9 @@ fn references_are_forgotten() {
 // Whatever guard of the page is there, it stays; and it goes once the guard is dropped.
 #[test]
 fn page_in_use_is_refused() {
-    let config = PagerConfig {
-        pin_wait: Duration::from_millis(20),
-        ..config(4)
-    };
+    let config = config(4).with_pin_wait(Duration::from_millis(20));
     for correlated in [0, 4] {
-        let config = PagerConfig {
-            correlated,
-            ..config.clone()
-        };
+        let config = config.clone().with_correlated(correlated);
         let pager = Pager::new(&config, Device::default()).unwrap();
         put(&pager, 1, 9, 5);
         let guard = pager.read(1).unwrap();
@@ -208,11 +199,9 @@ fn waits_for_device_work() {
 
 #[test]
 fn range_of_pages() {
-    let config = PagerConfig {
-        pin_wait: Duration::from_millis(20),
-        correlated: 2,
-        ..config(6)
-    };
+    let config = config(6)
+        .with_pin_wait(Duration::from_millis(20))
+        .with_correlated(2);
     let pager = Pager::new(&config, Device::default()).unwrap();
     for page in 0..6 {
         put(&pager, page, 9, page + 1);

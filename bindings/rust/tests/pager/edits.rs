@@ -1,6 +1,6 @@
 //! Changes in place, and puts of bytes that are those of the pool or not.
 use crate::device::{Asked, Device, SIZE, config, pager};
-use hojzmated::{Error, Pager, PagerConfig};
+use hojzmated::{Error, Pager};
 use std::cell::RefCell;
 use std::panic::{AssertUnwindSafe, catch_unwind};
 use std::sync::Arc;
@@ -8,10 +8,7 @@ use std::thread;
 
 /// A pager with pages of this size, and 16 frames in one part.
 fn pager_of(page_size: usize) -> Pager<Whole> {
-    let config = PagerConfig {
-        page_size,
-        ..config(16)
-    };
+    let config = config(16).with_page_size(page_size);
     Pager::new(&config, Whole).unwrap()
 }
 

@@ -85,15 +85,17 @@ impl Engine {
     pub fn new(settings: &Settings) -> Engine {
         let (pages, scratch) = (settings.pages, settings.pages - SCRATCH..settings.pages);
         let temporary = pages - DROPPED..pages;
-        let config = PagerConfig {
-            parts: settings.parts,
-            correlated: settings.seed % 3 * settings.frames as u64 / 2,
-            retained: 1_000,
-            pin_wait: Duration::from_millis(if settings.several_in > 0 { 300 } else { 60_000 }),
-            temporary: temporary.clone(),
-            notes_latches: settings.seed % 2 == 0,
-            ..PagerConfig::new(pages, SIZE, settings.frames)
-        };
+        let config = PagerConfig::new(pages, SIZE, settings.frames)
+            .with_parts(settings.parts)
+            .with_correlated(settings.seed % 3 * settings.frames as u64 / 2)
+            .with_retained(1_000)
+            .with_pin_wait(Duration::from_millis(if settings.several_in > 0 {
+                300
+            } else {
+                60_000
+            }))
+            .with_temporary(temporary.clone())
+            .with_notes_latches(settings.seed % 2 == 0);
         let device = Device::new(pages, temporary, settings.seed, settings.faults_in);
         Engine {
             pager: Arc::new(Pager::new(&config, device).unwrap()),

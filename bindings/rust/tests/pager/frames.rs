@@ -1,6 +1,6 @@
 //! Who gets a frame where all pages that could make way are pinned: who came first.
 use crate::device::{Asked, Device, Gate, PAGES, Watch, config, pager, put};
-use hojzmated::{Error, Pager, PagerConfig, PagerError};
+use hojzmated::{Error, Pager, PagerError};
 use std::sync::atomic::{AtomicBool, AtomicU64, Ordering};
 use std::sync::mpsc::{Sender, channel};
 use std::sync::{Arc, Mutex};
@@ -206,10 +206,7 @@ fn frame_that_was_written_out_for_a_call() {
 #[test]
 fn calls_that_give_up() {
     let _watch = Watch::over("calls_that_give_up", 60);
-    let config = PagerConfig {
-        pin_wait: Duration::from_millis(30),
-        ..config(1)
-    };
+    let config = config(1).with_pin_wait(Duration::from_millis(30));
     let pager = Pager::new(&config, Device::default()).unwrap();
     let pin = pager.pin(0).unwrap();
     for _ in 0..3 {

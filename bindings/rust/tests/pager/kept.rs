@@ -1,17 +1,14 @@
 //! With a correlated period the passes of pages stay out that nobody uses: these count as unpinned,
 //! and make way all the same.
 use crate::device::{Asked, Device, PAGES, Watch, config, put};
-use hojzmated::{Pager, PagerConfig};
+use hojzmated::Pager;
 use std::mem::forget;
 use std::panic::{AssertUnwindSafe, catch_unwind};
 use std::sync::atomic::{AtomicU64, Ordering};
 use std::thread;
 
 fn pager(frames: usize, correlated: u64) -> Pager<Device> {
-    let config = PagerConfig {
-        correlated,
-        ..config(frames)
-    };
+    let config = config(frames).with_correlated(correlated);
     Pager::new(&config, Device::default()).unwrap()
 }
 

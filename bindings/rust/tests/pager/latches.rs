@@ -1,6 +1,6 @@
 //! Latches: who waits for whom, and that a page under one stays as it is.
 use crate::device::{Asked, Device, PAGES, SIZE, Watch, config, pager, put};
-use hojzmated::{Pager, PagerConfig};
+use hojzmated::Pager;
 use std::panic::{AssertUnwindSafe, catch_unwind, resume_unwind};
 use std::sync::Barrier;
 use std::sync::atomic::{AtomicBool, AtomicUsize, Ordering};
@@ -139,10 +139,7 @@ fn page_stays_under_a_look() {
 #[test]
 fn latches_in_one_order() {
     let _watch = Watch::over("latches_in_one_order", 600);
-    let config = PagerConfig {
-        parts: 2,
-        ..config(8)
-    };
+    let config = config(8).with_parts(2);
     let pager = Pager::new(&config, Device::default()).unwrap();
     thread::scope(|threads| {
         for thread in 0..3 {

@@ -1,6 +1,6 @@
 //! Beside a log that is slow or fails: which latches are held meanwhile, and which calls fail.
 use crate::device::{Asked, Device, Fate, Gate, Watch, config, fault, pager, put};
-use hojzmated::{Pager, PagerConfig, PagerError};
+use hojzmated::{Pager, PagerError};
 use std::panic::{AssertUnwindSafe, catch_unwind, resume_unwind};
 use std::sync::Arc;
 use std::sync::atomic::{AtomicUsize, Ordering};
@@ -222,10 +222,7 @@ fn log_that_cannot_be_had_so_far() {
 // the first fault is told.
 #[test]
 fn checkpoint_goes_on_after_a_page() {
-    let config = PagerConfig {
-        parts: 2,
-        ..config(16)
-    };
+    let config = config(16).with_parts(2);
     let pager = Pager::new(&config, Device::default()).unwrap();
     (0..12).for_each(|page| put(&pager, page, 1, page + 1));
     put(&pager, 7, 1, 1_000);

@@ -83,12 +83,10 @@ fn moves(pager: &Pager<Files>, numbers: &mut Numbers) {
 #[test]
 fn two_latches_beside_flushes() {
     let _watch = Watch::over("two_latches_beside_flushes", 60);
-    let config = PagerConfig {
-        parts: 1,
-        k: 1,
-        correlated: 0,
-        ..PagerConfig::new(PAGES, SIZE, 9)
-    };
+    let config = PagerConfig::new(PAGES, SIZE, 9)
+        .with_parts(1)
+        .with_k(1)
+        .with_correlated(0);
     let pager = Pager::new(&config, Files::new()).unwrap();
     let end = Instant::now() + Duration::from_secs(2);
     thread::scope(|threads| {

@@ -27,10 +27,7 @@ fn with_work(
 }
 
 fn pin_wait(millis: u64) -> PagerConfig {
-    PagerConfig {
-        pin_wait: Duration::from_millis(millis),
-        ..config(2)
-    }
+    config(2).with_pin_wait(Duration::from_millis(millis))
 }
 
 // The log looks at a page. For that another one has to make way, which needs the log.
@@ -135,10 +132,7 @@ fn read_that_needs_a_latch_of_who_waits_for_it() {
 fn latch_of_a_pin_panics() {
     let _watch = Watch::over("latch_of_a_pin_panics", 60);
     // Else the latch, which is the thread's own, would be refused at once.
-    let config = PagerConfig {
-        notes_latches: false,
-        ..pin_wait(50)
-    };
+    let config = pin_wait(50).with_notes_latches(false);
     let pager = with_work(&config, |pager, asked| {
         if asked == Asked::Read(7) {
             let pin: PagePin<'_> = pager.pin(0).unwrap();
@@ -228,10 +222,7 @@ impl PageIo for Crossed {
 fn reads_that_want_each_other() {
     let _watch = Watch::over("reads_that_want_each_other", 120);
     let pin_wait = Duration::from_millis(200);
-    let config = PagerConfig {
-        pin_wait,
-        ..PagerConfig::with_parts(10_000, 64, 16, 1)
-    };
+    let config = PagerConfig::in_parts(10_000, 64, 16, 1).with_pin_wait(pin_wait);
     let crossed = Crossed {
         pager: OnceLock::new(),
         have_begun: Barrier::new(2),

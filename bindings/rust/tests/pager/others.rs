@@ -61,11 +61,9 @@ impl PageIo for Device {
 }
 
 fn pager(parts: usize, frames: usize, device: Device) -> Pager<Device> {
-    let config = PagerConfig {
-        parts,
-        correlated: 0,
-        ..PagerConfig::new(100, 64, frames)
-    };
+    let config = PagerConfig::new(100, 64, frames)
+        .with_parts(parts)
+        .with_correlated(0);
     Pager::new(&config, device).unwrap()
 }
 
@@ -225,21 +223,15 @@ fn limits_of_the_whole() {
     let new = |config| Pager::new(&config, Device::default()).map(drop);
     let usual = PagerConfig::new(10, 64, 4);
     let page_size = usize::MAX - 15;
-    let config = PagerConfig {
-        page_size,
-        ..usual.clone()
-    };
+    let config = usual.clone().with_page_size(page_size);
     assert_eq!(new(config), Err(Error::BadGeometry));
     for parts in [1, 4] {
         let (correlated, retained) = (u64::MAX, (1 << 62) + 1);
         let config = usual.clone();
-        let config = PagerConfig { parts, ..config };
+        let config = config.with_parts(parts);
         for config in [
-            PagerConfig {
-                correlated,
-                ..config.clone()
-            },
-            PagerConfig { retained, ..config },
+            config.clone().with_correlated(correlated),
+            config.with_retained(retained),
         ] {
             assert_eq!(new(config), Err(Error::BadSettings));
         }

@@ -73,12 +73,8 @@ fn page_that_is_being_read() {
         gate.open();
     });
     assert_eq!(pager.io().asked(), [Asked::Read(5)]);
-    let totals = Totals {
-        hits: 3,
-        faults: 1,
-        refused: 3,
-        ..Totals::default()
-    };
+    let mut totals = Totals::default();
+    (totals.hits, totals.faults, totals.refused) = (3, 1, 3);
     assert_eq!((pager.stats().totals, pager.stats().waits), (totals, 3));
 }
 

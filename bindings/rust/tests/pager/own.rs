@@ -1,7 +1,7 @@
 //! A thread that asks for a latch of a page of which it has one already: it does not wait for itself, where latches
 //! are noted.
 use crate::device::{Device, Watch, config, put};
-use hojzmated::{Error, PagerConfig, PagerError};
+use hojzmated::{Error, PagerError};
 use std::panic::{AssertUnwindSafe, catch_unwind};
 use std::thread;
 use std::time::Duration;
@@ -12,12 +12,10 @@ type Pager = hojzmated::Pager<Device>;
 fn pagers() -> impl Iterator<Item = Pager> {
     let periods = [(0, false), (4, false), (4, true)];
     periods.into_iter().map(|(correlated, tells_each_pin)| {
-        let config = PagerConfig {
-            correlated,
-            tells_each_pin,
-            notes_latches: true,
-            ..config(4)
-        };
+        let config = config(4)
+            .with_correlated(correlated)
+            .with_tells_each_pin(tells_each_pin)
+            .with_notes_latches(true);
         Pager::new(&config, Device::default()).unwrap()
     })
 }
@@ -141,11 +139,9 @@ fn latches_of_other_threads() {
 #[test]
 fn noted_or_not() {
     let all = [false, true].map(|notes_latches| {
-        let config = PagerConfig {
-            correlated: 3,
-            notes_latches,
-            ..config(4)
-        };
+        let config = config(4)
+            .with_correlated(3)
+            .with_notes_latches(notes_latches);
         let pager = Pager::new(&config, Device::default()).unwrap();
         for turn in 0..500 {
             let page = (turn * turn + turn / 7) % 9;

@@ -86,12 +86,12 @@ fn numbers_of_parts() {
         (usize::MAX, Err(Error::BadSettings)),
     ] {
         let good = PagerConfig::new(100, SIZE, 100);
-        assert_eq!(told_of(&PagerConfig { parts, ..good }), told, "{parts}");
+        assert_eq!(told_of(&good.with_parts(parts)), told, "{parts}");
     }
     // No more than frames, or pages.
     for (pages, frames) in [(2, 3), (3, 2), (100, 0)] {
         let good = PagerConfig::new(pages, SIZE, frames);
-        let told = told_of(&PagerConfig { parts: 3, ..good });
+        let told = told_of(&good.with_parts(3));
         assert_eq!(
             told,
             Err(Error::BadSettings),
@@ -122,25 +122,15 @@ fn settings_out_of_their_limits() {
 fn geometry_out_of_its_limits() {
     for (pages, page_size) in [(0, 16), (100, 0), (100, 24), (100, 65_552), (u64::MAX, 16)] {
         for parts in [1, 2] {
-            let config = PagerConfig {
-                parts,
-                ..PagerConfig::new(100, 16, 100)
-            };
-            let config = PagerConfig {
-                pages,
-                page_size,
-                ..config
-            };
+            let config = PagerConfig::new(100, 16, 100).with_parts(parts);
+            let config = config.with_pages(pages).with_page_size(page_size);
             let told = told_of(&config);
             let is_told = told == Err(Error::BadGeometry)
                 || (pages, parts, told) == (0, 2, Err(Error::BadSettings));
             assert!(is_told, "{told:?} of {config:?}");
         }
     }
-    let config = PagerConfig {
-        parts: 2,
-        ..PagerConfig::new((1 << 21) + 1, 16, 2)
-    };
+    let config = PagerConfig::new((1 << 21) + 1, 16, 2).with_parts(2);
     assert_eq!(told_of(&config), Err(Error::BadGeometry));
 }
 
@@ -148,10 +138,7 @@ fn geometry_out_of_its_limits() {
 #[test]
 fn pinned_frames() {
     let pin_wait = Duration::from_millis(60);
-    let config = PagerConfig {
-        pin_wait,
-        ..config(1)
-    };
+    let config = config(1).with_pin_wait(pin_wait);
     let pager = Pager::new(&config, Device::default()).unwrap();
     let page = pager.read(1).unwrap();
     let began = Instant::now();

@@ -41,15 +41,15 @@ impl PageIo for Zeros {
 
 /// A pager of one part with four frames.
 fn pager(retained: Option<u64>) -> Pager<Zeros> {
-    let new = PagerConfig::with_parts(10_000, 16, 4, 1);
+    let new = PagerConfig::in_parts(10_000, 16, 4, 1);
     let retained = retained.unwrap_or(new.retained);
-    Pager::new(&PagerConfig { retained, ..new }, Zeros::from(0)).unwrap()
+    Pager::new(&new.with_retained(retained), Zeros::from(0)).unwrap()
 }
 
 #[test]
 fn settings_remember_eight_times_the_frames() {
     assert_eq!(PagerConfig::new(10_000, 16, 100).retained, 800);
-    assert_eq!(PagerConfig::with_parts(10_000, 16, 100, 3).retained, 800);
+    assert_eq!(PagerConfig::in_parts(10_000, 16, 100, 3).retained, 800);
     assert_eq!(core::Config::new(10_000, 16, 100).retained, 800);
 }
 
@@ -130,12 +130,9 @@ fn reads_beside_scans(config: &PagerConfig) -> u64 {
 // enough to push the others out.
 #[test]
 fn hot_pages_stay_beside_a_scan() {
-    let new = || PagerConfig::with_parts(1_000, 16, 64, 1);
+    let new = || PagerConfig::in_parts(1_000, 16, 64, 1);
     assert_eq!(reads_beside_scans(&new()), 0);
-    let without_end = PagerConfig {
-        retained: 1 << 62,
-        ..new()
-    };
+    let without_end = new().with_retained(1 << 62);
     let reads = reads_beside_scans(&without_end);
     assert!(reads > 38, "{reads}");
 }

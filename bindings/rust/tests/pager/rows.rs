@@ -1,7 +1,7 @@
 //! Rows of `tests/worked_rows` by a pager with one part, whose clock moves on by one at each call that
 //! gives a page.
 use crate::device::{Asked, Device, Fate, config, put};
-use hojzmated::{Error, PagePin, Pager, PagerConfig, PagerError};
+use hojzmated::{Error, PagePin, Pager, PagerError};
 use std::sync::Arc;
 
 /// A call.
@@ -102,11 +102,7 @@ fn follow<const N: usize>(pager: &Pager<Device>, rows: [(Do, Gives); N]) {
 }
 
 fn pager(k: u8, retained: u64, frames: usize) -> Pager<Device> {
-    let config = PagerConfig {
-        k,
-        retained,
-        ..config(frames)
-    };
+    let config = config(frames).with_k(k).with_retained(retained);
     Pager::new(&config, Device::default()).unwrap()
 }
 
@@ -288,12 +284,10 @@ fn counts(k: u8, correlated: u64, references: &[u64]) -> (u64, u64, u64) {
 }
 
 fn counts_by(k: u8, correlated: u64, tells_each_pin: bool, references: &[u64]) -> (u64, u64, u64) {
-    let config = PagerConfig {
-        k,
-        correlated,
-        tells_each_pin,
-        ..config(3)
-    };
+    let config = config(3)
+        .with_k(k)
+        .with_correlated(correlated)
+        .with_tells_each_pin(tells_each_pin);
     let pager = Pager::new(&config, Device::default()).unwrap();
     for page in references {
         drop(pager.read(*page).unwrap());
@@ -332,11 +326,7 @@ fn each_pin_is_told() {
 #[test]
 fn pin_of_a_pinned_page() {
     for (tells_each_pin, stays) in [(true, 1), (false, 2)] {
-        let config = PagerConfig {
-            k: 1,
-            tells_each_pin,
-            ..config(2)
-        };
+        let config = config(2).with_k(1).with_tells_each_pin(tells_each_pin);
         let pager = Pager::new(&config, Device::default()).unwrap();
         let pin = pager.pin(1).unwrap();
         drop(pager.read(2).unwrap());

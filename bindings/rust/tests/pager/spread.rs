@@ -30,11 +30,9 @@ impl PageIo for Reads {
 }
 
 fn pager(parts: usize) -> Pager<Reads> {
-    let config = PagerConfig {
-        parts,
-        pin_wait: Duration::ZERO,
-        ..PagerConfig::new(64 * 1024, 16, 1024)
-    };
+    let config = PagerConfig::new(64 * 1024, 16, 1024)
+        .with_parts(parts)
+        .with_pin_wait(Duration::ZERO);
     Pager::new(&config, Reads::default()).unwrap()
 }
 
@@ -72,11 +70,7 @@ fn each_page_has_a_place() {
             if parts as u64 > pages {
                 continue;
             }
-            let config = PagerConfig {
-                parts,
-                pages,
-                ..config(PAGES as usize)
-            };
+            let config = config(PAGES as usize).with_parts(parts).with_pages(pages);
             let pager = Pager::new(&config, Device::default()).unwrap();
             (0..pages).for_each(|page| put(&pager, page, 100 + page as u8, 0));
             for page in 0..pages {

@@ -42,12 +42,10 @@ impl PageIo for Calling {
 }
 
 fn pager_of(frames: usize, correlated: u64) -> Arc<Pager<Calling>> {
-    let config = PagerConfig {
-        parts: 1,
-        correlated,
-        pin_wait: Duration::from_secs(20),
-        ..PagerConfig::new(100, 64, frames)
-    };
+    let config = PagerConfig::new(100, 64, frames)
+        .with_parts(1)
+        .with_correlated(correlated)
+        .with_pin_wait(Duration::from_secs(20));
     Arc::new(Pager::new(&config, Calling::default()).unwrap())
 }
 

@@ -2,7 +2,7 @@
 use crate::device::{Device, Watch, config};
 use crate::engine::{Engine, Settings, Told};
 use crate::faulty::{Numbers, pause};
-use hojzmated::{Pager, PagerConfig};
+use hojzmated::Pager;
 use std::sync::atomic::Ordering;
 use std::thread;
 use std::time::Duration;
@@ -89,10 +89,7 @@ fn device_that_often_fails() {
 fn pins_in_two_frames() {
     let _watch = Watch::over("pins_in_two_frames", 600);
     let pin_wait = Duration::from_secs(60);
-    let config = PagerConfig {
-        pin_wait,
-        ..config(2)
-    };
+    let config = config(2).with_pin_wait(pin_wait);
     let pager = Pager::new(&config, Device::default()).unwrap();
     thread::scope(|threads| {
         for thread in 0..THREADS {

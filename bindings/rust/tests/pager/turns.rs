@@ -1,7 +1,7 @@
 //! Who gets a latch, a frame or the log next: nobody waits without end, and a wake-up goes to who
 //! waits for it.
 use crate::device::{Asked, Device, Watch, config, pager, put};
-use hojzmated::{Pager, PagerConfig};
+use hojzmated::Pager;
 use std::sync::atomic::{AtomicBool, AtomicU64, Ordering};
 use std::sync::{Barrier, Mutex};
 use std::thread;
@@ -218,10 +218,7 @@ fn unpinned_page_wakes_one_thread() {
 #[test]
 fn frames_go_round() {
     let _watch = Watch::over("frames_go_round", 60);
-    let config = PagerConfig {
-        pin_wait: Duration::from_secs(5),
-        ..config(2)
-    };
+    let config = config(2).with_pin_wait(Duration::from_secs(5));
     let pager = Pager::new(&config, Device::default()).unwrap();
     thread::scope(|threads| {
         for thread in 0..16 {
@@ -242,10 +239,7 @@ fn frames_go_round() {
 // kept for five references.
 #[test]
 fn refused_call_moves_no_clock() {
-    let config = PagerConfig {
-        retained: 5,
-        ..config(1)
-    };
+    let config = config(1).with_retained(5);
     let pager = Pager::new(&config, Device::default()).unwrap();
     drop(pager.read(1).unwrap());
     let pin = pager.pin(2).unwrap();

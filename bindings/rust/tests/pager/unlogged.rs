@@ -1,14 +1,10 @@
 //! Pages that are temporary, and puts without a record.
 use crate::device::{Asked, Device, Fate, PAGES, SIZE, config, pager, put};
-use hojzmated::{Error, Pager, PagerConfig};
+use hojzmated::{Error, Pager};
 use std::ops::Range;
 
 fn pager_with(temporary: Range<u64>, parts: usize, frames: usize) -> Pager<Device> {
-    let config = PagerConfig {
-        parts,
-        temporary,
-        ..config(frames)
-    };
+    let config = config(frames).with_parts(parts).with_temporary(temporary);
     Pager::new(&config, Device::default()).unwrap()
 }
 

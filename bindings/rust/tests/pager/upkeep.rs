@@ -1,6 +1,6 @@
 //! Checkpoints, and pages that are written out before they have to make way.
 use crate::device::{Asked, Device, Fate, Gate, Watch, config, pager, put, with_an_unsaved_page};
-use hojzmated::{Pager, PagerConfig};
+use hojzmated::Pager;
 use std::sync::{Arc, Mutex};
 use std::thread;
 use std::time::{Duration, Instant};
@@ -27,10 +27,7 @@ fn pager_with_work(frames: usize, work: fn(&Pager<Device>, Asked)) -> Shared {
 // them.
 #[test]
 fn checkpoint_in_the_order_of_the_file() {
-    let config = PagerConfig {
-        parts: 3,
-        ..config(12)
-    };
+    let config = config(12).with_parts(3);
     let pager = Pager::new(&config, Device::default()).unwrap();
     for (page, lsn) in [(7, 1), (2, 3), (5, 2), (12, 0), (9, 4)] {
         put(&pager, page, page as u8 * 10, lsn);
@@ -222,10 +219,7 @@ fn clean_leaves_what_is_in_use() {
 // Each part has its share of them.
 #[test]
 fn clean_of_many_parts() {
-    let config = PagerConfig {
-        parts: 4,
-        ..config(16)
-    };
+    let config = config(16).with_parts(4);
     let pager = Pager::new(&config, Device::default()).unwrap();
     (0..16).for_each(|page| put(&pager, page, 1, 0));
     assert_eq!(pager.clean(4).unwrap(), 4);

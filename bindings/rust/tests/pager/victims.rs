@@ -43,11 +43,7 @@ fn written(pager: &Pager<Device>) -> Vec<u64> {
 fn others_make_way() {
     for (k, correlated) in [(1, 0), (2, 0), (2, 1), (3, 4)] {
         for bad in 1..4 {
-            let pager = pager_of(&PagerConfig {
-                k,
-                correlated,
-                ..config(4)
-            });
+            let pager = pager_of(&config(4).with_k(k).with_correlated(correlated));
             (FULL..FULL + bad).for_each(|page| put(&pager, page, 1, 0));
             for page in (0..5).flat_map(|_| 0..FULL) {
                 let read = pager.read(page).map(|it| it.page());
@@ -82,10 +78,7 @@ fn each_call_goes_on() {
 #[test]
 fn refused_where_none_can() {
     for correlated in [0, 3] {
-        let pager = pager_of(&PagerConfig {
-            correlated,
-            ..config(4)
-        });
+        let pager = pager_of(&config(4).with_correlated(correlated));
         (FULL..PAGES).for_each(|page| put(&pager, page, 1, 0));
         let began = Instant::now();
         let calls: [Call; 2] = [|it| it.read(0).map(drop), |it| it.try_read(0).map(drop)];

@@ -55,14 +55,12 @@ pub enum Gives {
 
 /// A pool over 16 pages of 16 bytes, with two clients and no correlated period.
 pub fn pool(k: u8, retained: u64, frames: usize, room: usize) -> Pool {
-    let config = Config {
-        k,
-        correlated: 0,
-        retained,
-        room,
-        clients: 2,
-        ..Config::new(16, 16, frames)
-    };
+    let config = Config::new(16, 16, frames)
+        .with_k(k)
+        .with_correlated(0)
+        .with_retained(retained)
+        .with_room(room)
+        .with_clients(2);
     Pool::new(&config).unwrap()
 }
 

@@ -323,13 +323,11 @@ fn keeps_the_limits_of_a_pool() {
         (1, 1, 2_305_843_009_213_693_952, None),
         (1, 1, 2_305_843_009_213_693_953, Some(2)),
     ] {
-        let config = Config {
-            clients,
-            room,
-            k: 1,
-            retained: 0,
-            ..Config::new(1, 16, frames)
-        };
+        let config = Config::new(1, 16, frames)
+            .with_clients(clients)
+            .with_room(room)
+            .with_k(1)
+            .with_retained(0);
         let found = Pool::new(&config).err().map(Error::number);
         assert_eq!(found, refused, "{config:?}");
     }

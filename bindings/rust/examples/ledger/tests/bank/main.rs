@@ -97,11 +97,11 @@ impl Settings {
         let (store, is_torn) = Store::open(pages, log, |pages, page_size| {
             let frames = self.number("--frames", 1_000) as usize;
             let config = PagerConfig::new(pages, page_size, frames);
-            PagerConfig {
-                correlated: self.number("--period", config.correlated),
-                k: self.number("--k", config.k.into()).try_into().unwrap_or(0),
-                ..config
-            }
+            let correlated = self.number("--period", config.correlated);
+            let k = self.number("--k", config.k.into());
+            config
+                .with_correlated(correlated)
+                .with_k(k.try_into().unwrap_or(0))
         })?;
         if is_torn {
             println!("the log ends within a record, which was not acknowledged");

@@ -81,9 +81,8 @@ impl Run {
         for _ in 0..3 {
             let (failures, from) = (self.disk.failures(), self.disk.counts().all + 1);
             let (pages, log) = (device(&self.disk, "pages"), device(&self.disk, "log"));
-            let opened = Store::open(pages, log, |pages, size| PagerConfig {
-                parts: 1,
-                ..PagerConfig::new(pages, size, 32)
+            let opened = Store::open(pages, log, |pages, size| {
+                PagerConfig::new(pages, size, 32).with_parts(1)
             });
             self.starts.push(from..self.disk.counts().all + 1);
             let compared = opened.and_then(|(store, _)| Ok((self.compare(&store)?, store)));

@@ -170,9 +170,12 @@ impl Run {
         for _ in 0..3 {
             let (failures, from) = (self.disk.failures(), self.disk.counts().all + 1);
             let frames = self.frames;
-            let config = |pages, page_size| PagerConfig {
-                parts: if frames < 64 { 1 } else { 2 },
-                ..PagerConfig::new(pages, page_size, frames)
+            let config = |pages, page_size| {
+                PagerConfig::new(pages, page_size, frames).with_parts(if frames < 64 {
+                    1
+                } else {
+                    2
+                })
             };
             let opened = Store::open(
                 device(&self.disk, "pages"),
