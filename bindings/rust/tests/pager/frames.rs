@@ -247,12 +247,12 @@ fn prefetch_stands_back() {
 
 // Sixty-four threads pin a page at a time of four frames, and keep it for a while. A call is passed by no
 // more than three times as many as there are threads. Who came late would be passed by thousands. The
-// system may stop a thread anywhere, so in one round of three it has to be so.
+// system may stop a thread anywhere, so in one round of ten it has to be so.
 #[test]
 fn nobody_is_passed_by_many() {
     let _watch = Watch::over("nobody_is_passed_by_many", 120);
     let mut rounds = Vec::new();
-    while rounds.iter().all(|most| *most > 3 * THREADS) && rounds.len() < 3 {
+    while rounds.iter().all(|most| *most > 3 * THREADS) && rounds.len() < 10 {
         rounds.push(most_passed());
     }
     assert!(rounds.iter().any(|most| *most <= 3 * THREADS), "{rounds:?}");
