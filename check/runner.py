@@ -7,6 +7,7 @@ import concurrent.futures
 import multiprocessing
 import os
 import resource
+import shutil
 import subprocess
 import tempfile
 
@@ -15,6 +16,9 @@ TOP = os.path.dirname(CHECK)
 CRATES = os.path.join(TOP, "crates")
 CC = os.environ.get("CC", "cc")
 AT_A_TIME = 4
+# What packages of the Rust crates have inside and stands elsewhere here: where in bindings/rust, and where here.
+PACKAGED = {"RULES.md": "docs/RULES.md", "sys/include/hojzmated.h": "include/hojzmated.h",
+            "sys/tests/layout.c": "peers/c/layout.c"}
 
 
 class Failed(Exception):
@@ -35,6 +39,14 @@ def write(text, *path):
     """Writes a file anew."""
     with open(os.path.join(*path), "w", encoding="utf-8") as file:
         file.write(text)
+
+
+def pack(folder):
+    """Copies what packages have inside into a copy of bindings/rust."""
+    for to, name in PACKAGED.items():
+        to = os.path.join(folder, to)
+        os.makedirs(os.path.dirname(to), exist_ok=True)
+        shutil.copy(os.path.join(TOP, name), to)
 
 
 def edit(path, old, new):

@@ -1,4 +1,4 @@
-//! Finds the archive `libhojzmated.a`, and has it linked.
+//! Finds the archive `libhojzmated.a`, and has it linked; and tells where the header is.
 //!
 //! It is looked for where `HOJZMATED_PREFIX` says, then in this crate's folder `lib/x86_64-linux`, where a
 //! package and the crate of a release have it, then where pkg-config says, and then in the checkout that
@@ -18,10 +18,7 @@ fn main() {
     ] {
         println!("cargo::rerun-if-env-changed={name}");
     }
-    println!(
-        "cargo::metadata=include={}",
-        own().join("include").display()
-    );
+    tell_sources();
     if env::var_os("DOCS_RS").is_some() {
         return;
     }
@@ -38,6 +35,28 @@ fn main() {
 /// The folder of this crate.
 fn own() -> PathBuf {
     env::var_os("CARGO_MANIFEST_DIR").map_or(".".into(), PathBuf::from)
+}
+
+/// Tells where the header is, and what its layout is to be: a package has them inside, and a checkout where
+/// they belong.
+fn tell_sources() {
+    let found = |inside: &str, beside: &str| {
+        let places = [own().join(inside), own().join("../../..").join(beside)];
+        places.iter().find_map(|it| it.canonicalize().ok())
+    };
+    match found("include/hojzmated.h", "include/hojzmated.h") {
+        Some(header) => {
+            println!("cargo::rustc-env=HOJZMATED_HEADER={}", header.display());
+            if let Some(folder) = header.parent() {
+                println!("cargo::metadata=include={}", folder.display());
+            }
+        }
+        None => println!("cargo::error=there is no include/hojzmated.h"),
+    }
+    // The tests alone want it.
+    if let Some(layout) = found("tests/layout.c", "peers/c/layout.c") {
+        println!("cargo::rustc-env=HOJZMATED_LAYOUT={}", layout.display());
+    }
 }
 
 /// Refuses a target for which there is no proved library.

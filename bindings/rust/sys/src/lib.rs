@@ -6,7 +6,7 @@
 use core::ffi::c_void;
 
 /// The text of the header.
-pub const HEADER: &str = include_str!("../include/hojzmated.h");
+pub const HEADER: &str = include_str!(env!("HOJZMATED_HEADER"));
 
 #[cfg(not(target_pointer_width = "64"))]
 compile_error!("the pool is for machines with pointers of 64 bits");
@@ -158,7 +158,7 @@ mod tests {
     use super::*;
     use std::mem::offset_of;
 
-    const LAYOUT: &str = include_str!("../tests/layout.c");
+    const LAYOUT: &str = include_str!(env!("HOJZMATED_LAYOUT"));
 
     /// Returns the size of a field of this struct.
     const fn len_of<S, F>(_: fn(&S) -> &F) -> usize {

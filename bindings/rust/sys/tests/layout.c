@@ -1,1 +1,0 @@
-../../../../peers/c/layout.c
