@@ -53,7 +53,7 @@ extern "C" {
 /* The refusals of a pager beside those of enum hz_refusal, which mean here:
  *
  *     HZ_NO_VICTIM      all pages that could make way were pinned for the whole time that a call waits
- *     HZ_NEED_LOG       the log could not be made durable; the fault has the LSN, and the errno of the callback
+ *     HZ_NEED_LOG       the log does not reach so far yet, as HZ_IO_NOT_YET told; the fault has the LSN
  *     HZ_BUSY           a latch cannot be had at once, with HZ_TRY; or a page is still fixed, when a pager is freed
  *     HZ_PAGE_PINNED    a page that is to be dropped is fixed
  *     HZ_UNKNOWN_PASS   this thread has not fixed the page, or has given it back
@@ -82,6 +82,9 @@ enum hz_pager_refusal {
                                  cannot be locked, and the fault has the errno */
     HZ_NOT_A_FILE = 77,       /* a directory, with the errno EISDIR, or a pipe or a device, is no page file */
     HZ_FILE_READ_ONLY = 78,   /* the descriptor is open for reading alone, and the config does not say read_only */
+    HZ_LOG_LOST = 79,         /* the log failed: in this call, where the fault has the LSN and the errno, or before.
+                                 What was appended since it was durable last may be lost. Each later call that needs
+                                 the log is refused so, and each checkpoint */
 };
 
 /* How a page is fixed: one of the first three, or one of them with HZ_TRY, as HZ_SHARED | HZ_TRY. */
@@ -135,6 +138,8 @@ typedef struct hz_pager_config {
 
 /* What a read callback answers where it found another page than it was asked for, or a wrong checksum. */
 #define HZ_IO_WRONG_PAGE (-1)
+/* What make_log_durable answers where the log ends before that LSN, and nothing of it is lost. */
+#define HZ_IO_NOT_YET (-2)
 
 /* The engine's device and log, as functions that the pager calls. Each gets the engine's own pointer, and answers 0 or
  * an errno, which the call that needed it then tells. None may be null.
@@ -153,9 +158,11 @@ typedef struct hz_io {
     /* Writes the image in the page's place. The image is a copy, and may be changed: the page LSN and a checksum can
      * be put into it. The log is durable as far as lsn. After an error the page is unsaved. */
     int (*write)(void *own, uint64_t page, uint8_t *image, size_t page_size, uint64_t lsn);
-    /* Makes the log durable at least as far as lsn. Where it gets further, hz_pager_mark tells the pager. After an error
-     * the pager asks again, and takes a later 0 for good. So where a sync of the log failed, answer its errno from then
-     * on: what it has lost no later sync keeps. */
+    /* Makes the log durable at least as far as lsn. Where it gets further, hz_pager_mark tells the pager. After an
+     * errno the log is lost: what a sync has lost no later one keeps, though it goes well. So the pager asks no more,
+     * and takes no mark. Each later call that needs the log, and each checkpoint, is refused with HZ_LOG_LOST; other
+     * pages are read, and go out where their records were durable before. After HZ_IO_NOT_YET it asks again, when it
+     * needs that record again. */
     int (*make_log_durable)(void *own, uint64_t lsn);
     /* Makes all writes to the device durable. */
     int (*sync)(void *own);
@@ -164,7 +171,8 @@ typedef struct hz_io {
 /* Which refusal came, and of what. */
 typedef struct hz_pager_fault {
     uint64_t page;    /* where has_page */
-    uint64_t lsn;     /* HZ_NEED_LOG: how far the log has to be durable. Else 0 */
+    uint64_t lsn;     /* HZ_NEED_LOG, and HZ_LOG_LOST where the log failed in this call: how far it has to be durable.
+                         Else 0 */
     int32_t error;    /* the errno of the callback or of the file, or 0 */
     uint16_t number;  /* the refusal, or 0 where this thread was never refused */
     uint8_t has_page; /* 0 or 1. The page may be another than that of the call: a victim that could not be written */
@@ -244,8 +252,8 @@ uint16_t hz_pager_free(hz_pager *pager);
  *     HZ_BUSY          with HZ_TRY, where the latch is not free
  *     HZ_NO_VICTIM     with HZ_TRY at once
  *     HZ_UNKNOWN_PASS  in a handler of atexit, and the like
- *     HZ_NEED_LOG, HZ_WRITE_FAILED  no page could make way; the fault is that of the first one that was tried. If
- *                       other pages are pinned, the call waits for them before, for 5 ms at most
+ *     HZ_NEED_LOG, HZ_LOG_LOST, HZ_WRITE_FAILED  no page could make way; the fault is that of the first one that was
+ *                       tried. If other pages are pinned, the call waits for them before, for 5 ms at most
  *     HZ_READ_FAILED, HZ_WRONG_PAGE, HZ_CLOCK_FULL, HZ_OUT_OF_MEMORY
  */
 uint16_t hz_pager_fix(const hz_pager *pager, uint64_t page, uint32_t how, hz_ref *ref);
@@ -265,12 +273,13 @@ uint16_t hz_pager_put(const hz_ref *ref, size_t offset, const uint8_t *bytes, si
 uint16_t hz_pager_unfix(const hz_ref *ref);
 
 /* Notes that the log is durable as far as lsn. The mark never falls: one that is too far lets pages out before their
- * log records, from then on. */
+ * log records, from then on. So mark nothing after a sync that failed. Once the log is lost, as HZ_LOG_LOST tells, a
+ * mark changes nothing. */
 uint16_t hz_pager_mark(const hz_pager *pager, uint64_t lsn);
 
 /* Writes a page out, if it is unsaved. It waits for a thread that has its exclusive latch, and ends with a write-out
  * that began after the call, its own or another thread's. Refused: HZ_OUT_OF_PAGE; HZ_DEADLOCK; HZ_NEED_LOG,
- * HZ_WRITE_FAILED, HZ_OUT_OF_MEMORY, after which it is unsaved. */
+ * HZ_LOG_LOST, HZ_WRITE_FAILED, HZ_OUT_OF_MEMORY, after which it is unsaved. */
 uint16_t hz_pager_flush(const hz_pager *pager, uint64_t page);
 
 /* Drops so many pages from the first one on: they leave their frames without being written out, and their references
@@ -295,10 +304,10 @@ uint16_t hz_pager_discard(const hz_pager *pager, uint64_t first, uint64_t count,
  * note the end of the log before the call, while no thread is between a record and its put, and cut the log at the
  * lesser of both.
  *
- * Refused: HZ_DEADLOCK where this thread has an exclusive latch of this pager; HZ_NEED_LOG, HZ_WRITE_FAILED,
- * HZ_OUT_OF_MEMORY, of the first page of several, after which all pages are written out that can be; HZ_SYNC_FAILED,
- * after which all that went out since the last good sync may be lost, and each later checkpoint is refused so, with no
- * errno: end the pager, and redo from the log. */
+ * Refused: HZ_DEADLOCK where this thread has an exclusive latch of this pager; HZ_NEED_LOG, HZ_LOG_LOST,
+ * HZ_WRITE_FAILED, HZ_OUT_OF_MEMORY, of the first page of several, after which all pages are written out that can be;
+ * HZ_SYNC_FAILED, after which all that went out since the last good sync may be lost. After that and after HZ_LOG_LOST
+ * each later checkpoint is refused so at once, with no errno: end the pager, and redo from the log. */
 uint16_t hz_pager_checkpoint(const hz_pager *pager, uint64_t *lsn, uint8_t *has_lsn);
 
 /* Writes out at most so many pages, so that later victims need not be. They are pages that nobody has fixed, and whose

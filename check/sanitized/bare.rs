@@ -7,7 +7,7 @@
 //! device is plain memory too. So the thread sanitizer finds each order between threads that the pager fails to give.
 use hojzmated::pthreads::{LATCH_WAITS, Mutex};
 use hojzmated::{
-    Error, PageIo, PageMut, PagePin, Pager, PagerConfig, PagerError, ReadFault, noted,
+    Error, LogFault, PageIo, PageMut, PagePin, Pager, PagerConfig, PagerError, ReadFault, noted,
 };
 use std::cell::UnsafeCell;
 use std::sync::atomic::{AtomicU64, Ordering::Relaxed};
@@ -80,7 +80,7 @@ impl PageIo for Device {
         Ok(())
     }
 
-    fn make_log_durable(&self, lsn: u64) -> io::Result<()> {
+    fn make_log_durable(&self, lsn: u64) -> Result<(), LogFault> {
         thread::yield_now();
         self.durable.fetch_max(lsn, Relaxed);
         Ok(())

@@ -59,10 +59,10 @@ static void errors(void)
     REFUSED(HZ_WRONG_PAGE, 1, 6, 0, 0, hz_pager_fix(&pager, 6, HZ_SHARED, &ref));
     device.read_error = 0;
     change(&pager, 6, 66, 10);
-    device.log_error = ENOSPC;
-    REFUSED(HZ_NEED_LOG, 1, 6, 10, ENOSPC, hz_pager_flush(&pager, 6));
-    SAYS("page 6: the log could not be made durable (LSN 10): No space left on device (os error 28)");
-    REFUSED(HZ_NEED_LOG, 0, 0, 10, ENOSPC, hz_pager_checkpoint(&pager, &lsn, &has_lsn));
+    device.log_error = HZ_IO_NOT_YET;
+    REFUSED(HZ_NEED_LOG, 1, 6, 10, 0, hz_pager_flush(&pager, 6));
+    SAYS("page 6: the log does not reach so far yet (LSN 10)");
+    REFUSED(HZ_NEED_LOG, 0, 0, 10, 0, hz_pager_checkpoint(&pager, &lsn, &has_lsn));
     device.log_error = 0;
     device.write_error = EFBIG;
     REFUSED(HZ_WRITE_FAILED, 1, 6, 0, EFBIG, hz_pager_flush(&pager, 6));
@@ -84,7 +84,7 @@ static void errors(void)
     end(&pager);
 }
 
-/* A page that cannot go out, or whose log record cannot be made durable, has no other refused: others make way. */
+/* A page that cannot go out, or whose log record the log does not reach yet, has no other refused: others make way. */
 static void victims(void)
 {
     hz_pager pager = start();
@@ -93,7 +93,7 @@ static void victims(void)
     uint64_t count;
     for (int unlogged = 0; unlogged < 2; unlogged++) {
         device.write_error = unlogged ? 0 : ENOSPC;
-        device.log_error = unlogged ? EIO : 0;
+        device.log_error = unlogged ? HZ_IO_NOT_YET : 0;
         change(&pager, (uint64_t)unlogged, 77, unlogged ? 9 : 0);
         for (int round = 0; round < 3; round++)
             for (uint64_t page = 2; page < PAGES; page++) {
@@ -193,6 +193,39 @@ static void use(const hz_pager *pager, uint64_t page)
 {
     hz_ref ref = fixed(pager, page, HZ_SHARED);
     SAME(HZ_DONE, hz_pager_unfix(&ref));
+}
+
+/* The log fails once, and would go well from then on: no page goes out under what it has lost. Others are used. */
+static void lost_log(void)
+{
+    hz_pager pager = start();
+    uint64_t lsn;
+    uint8_t has_lsn;
+    size_t cleaned;
+    change(&pager, 6, 66, 10);
+    device.log_error = EIO;
+    REFUSED(HZ_LOG_LOST, 1, 6, 10, EIO, hz_pager_flush(&pager, 6));
+    SAYS("page 6: the log failed (LSN 10): Input/output error (os error 5)");
+    device.log_error = 0;
+    SAME(HZ_DONE, hz_pager_mark(&pager, 10));
+    REFUSED(HZ_LOG_LOST, 1, 6, 0, 0, hz_pager_flush(&pager, 6));
+    SAYS("page 6: the log failed");
+    REFUSED(HZ_LOG_LOST, 0, 0, 0, 0, hz_pager_checkpoint(&pager, &lsn, &has_lsn));
+    SAME(HZ_DONE, hz_pager_clean(&pager, 9, &cleaned));
+    SAME(0, cleaned);
+    for (uint64_t page = 7; page < PAGES; page++)
+        use(&pager, page);
+    SAME(1, device.logs);
+    SAME(0, device.writes + device.syncs);
+    SAME(6, device.pages[6][0]);
+    change(&pager, 2, 22, 0); /* a page without a record needs no log */
+    SAME(HZ_DONE, hz_pager_flush(&pager, 2));
+    SAME(22, device.pages[2][0]);
+    /* Nor does a checkpoint go well once no page needs it: the log is not to be cut. */
+    SAME(HZ_DONE, hz_pager_discard(&pager, 6, 1, &lsn));
+    REFUSED(HZ_LOG_LOST, 0, 0, 0, 0, hz_pager_checkpoint(&pager, &lsn, &has_lsn));
+    SAME(0, device.syncs);
+    end(&pager);
 }
 
 static bool is_resident(const hz_pager *pager, uint64_t page)
@@ -515,6 +548,7 @@ int main(void)
 {
     errors();
     victims();
+    lost_log();
     checkpoints();
     purges();
     periods();

@@ -116,7 +116,7 @@ static int make_log_durable(void *own, uint64_t lsn)
 {
     (void)own;
     if (fails())
-        return EIO;
+        return HZ_IO_NOT_YET; /* after an errno the log is lost for good */
     uint64_t durable = log_durable;
     while (durable < lsn && !atomic_compare_exchange_weak(&log_durable, &durable, lsn))
         ;
@@ -138,8 +138,8 @@ static bool is_done(uint16_t number)
     if (number == HZ_DONE)
         return true;
     hz_pager_fault_of(&fault);
-    bool is_of_device = number == HZ_READ_FAILED || number == HZ_WRITE_FAILED || number == HZ_NEED_LOG;
-    HAS_TO_BE(is_of_device ? fault.error == EIO : number == HZ_WRONG_PAGE, number);
+    bool is_of_device = number == HZ_READ_FAILED || number == HZ_WRITE_FAILED;
+    HAS_TO_BE(is_of_device ? fault.error == EIO : number == HZ_WRONG_PAGE || number == HZ_NEED_LOG, number);
     return false;
 }
 

@@ -47,6 +47,7 @@ class Refusal(enum.IntEnum):
     FILE_IN_USE = 76  # another pager has the page file, in this process or another
     NOT_A_FILE = 77  # it is a directory, a pipe or a device
     FILE_READ_ONLY = 78
+    LOG_LOST = 79  # the log of an engine in C failed, now or before
 
 
 class How(enum.IntEnum):

@@ -14,7 +14,7 @@
 //!
 //! The settings are those of `PagerConfig::new`, but for PARTS, $K and $PERIOD. Printed: operations a
 //! second of wall clock, over all threads, the hit rate, K and the correlated period.
-use hojzmated::{PageIo, Pager, PagerConfig, ReadFault, Totals};
+use hojzmated::{LogFault, PageIo, Pager, PagerConfig, ReadFault, Totals};
 use pages::{Numbers, asked_for, fill, sum_of, tree, two_words};
 use std::error::Error;
 use std::fs::File;
@@ -60,7 +60,7 @@ impl PageIo for Pages {
         self.0.write_all_at(image, page * image.len() as u64)
     }
 
-    fn make_log_durable(&self, _lsn: u64) -> io::Result<()> {
+    fn make_log_durable(&self, _lsn: u64) -> Result<(), LogFault> {
         Ok(())
     }
 

@@ -1,25 +1,17 @@
 //! Counters in pages, under a log: wherever this is killed, the next run has each that was logged.
-use hojzmated::{Device, FileOptions, FilePages, Log, Pager, WithLog};
-use std::sync::{Mutex, atomic::AtomicBool, atomic::Ordering::SeqCst};
-use std::{error::Error, fs::File, io, os::unix::fs::FileExt, thread};
+use hojzmated::{Device, FileOptions, FilePages, Log, LogFault, Pager, WithLog};
+use std::{error::Error, fs::File, os::unix::fs::FileExt, sync::Mutex, thread};
 
 type Done = Result<(), Box<dyn Error + Send + Sync>>;
 const PAGES: u64 = 1_000;
 const RECORD: u64 = 32; // a page, its new count, 0, and the LSN: where the record ends in the log
 
 /// A head of the size of a record, which says from where to redo; then records.
-struct Records {
-    file: File,
-    lost: AtomicBool, // whether a sync failed
-}
+struct Records(File);
 
 impl Log for Records {
-    fn make_durable(&self, _lsn: u64) -> io::Result<()> {
-        if self.lost.swap(true, SeqCst) {
-            return Err(io::Error::other("what a sync has lost no later one keeps"));
-        }
-        let synced = self.file.sync_data();
-        synced.inspect(|()| self.lost.store(false, SeqCst))
+    fn make_durable(&self, _lsn: u64) -> Result<(), LogFault> {
+        Ok(self.0.sync_data()?) // once it failed, the pager asks no more
     }
 }
 
@@ -29,7 +21,7 @@ fn add(pager: &Engine, log_end: &Mutex<u64>, number: u64) -> Done {
     let mut page = pager.write(number)?; // no other thread has the page until this is dropped
     let count = u64::from_le_bytes(page.bytes()[..8].try_into()?) + 1;
     let mut end = log_end.lock().map_err(|_| "a thread panicked")?;
-    let (log, record) = (&pager.io().log.file, [number, count, 0, *end + RECORD]);
+    let (log, record) = (&pager.io().log.0, [number, count, 0, *end + RECORD]);
     let record = record.map(u64::to_le_bytes);
     log.write_all_at(record.as_flattened(), *end)?; // first the record
     *end += RECORD;
@@ -40,10 +32,9 @@ fn main() -> Done {
     let pages = FileOptions::new(4096).grown_to(PAGES);
     let pages = pages.create("engine.pages")?; // locked from here on
     let options = File::options().read(true).write(true).create(true).clone();
-    let (file, lost) = (options.open("engine.log")?, false.into());
-    let config = pages.config(256);
-    let pager = &Pager::new(&config, pages.with_log(Records { file, lost }))?;
-    let (log, mut rec) = (&pager.io().log.file, [[0; 8]; 4]);
+    let records = Records(options.open("engine.log")?);
+    let pager = &Pager::new(&pages.config(256), pages.with_log(records))?;
+    let (log, mut rec) = (&pager.io().log.0, [[0; 8]; 4]);
     log.read_at(&mut rec[0], 0)?;
     let mut end = u64::from_le_bytes(rec[0]).max(RECORD); // a new log has no head yet
     while log.read_at(rec.as_flattened_mut(), end)? > 0 && rec[3] == (end + RECORD).to_le_bytes() {

@@ -9,7 +9,7 @@
 //!
 //! Three threads make a file each, count in its pages, and make it longer; a file of scratch pages grows
 //! beside them, and is removed. Each run of the program counts one more.
-use hojzmated::{PageIo, Pager, PagerConfig, PagerError, ReadFault};
+use hojzmated::{LogFault, PageIo, Pager, PagerConfig, PagerError, ReadFault};
 use std::collections::BTreeMap;
 use std::error::Error;
 use std::fs::{self, File};
@@ -115,7 +115,7 @@ impl PageIo for Files {
     }
 
     // This example has no log.
-    fn make_log_durable(&self, _lsn: u64) -> io::Result<()> {
+    fn make_log_durable(&self, _lsn: u64) -> Result<(), LogFault> {
         Ok(())
     }
 

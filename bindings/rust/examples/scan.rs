@@ -29,7 +29,7 @@
 //! with a `Pool`, which is purged after each 16 fixes: printed are the mean and the greatest time of a
 //! purge, and the most pages that one forgot.
 use hojzmated::core::{Config, Fixed, Pool};
-use hojzmated::{PageIo, Pager, PagerConfig, ReadFault, Stats};
+use hojzmated::{LogFault, PageIo, Pager, PagerConfig, ReadFault, Stats};
 use std::cell::Cell;
 use std::error::Error;
 use std::fs::{File, remove_file};
@@ -109,7 +109,7 @@ impl PageIo for Pages {
         Ok(())
     }
 
-    fn make_log_durable(&self, _lsn: u64) -> io::Result<()> {
+    fn make_log_durable(&self, _lsn: u64) -> Result<(), LogFault> {
         Ok(())
     }
 
@@ -147,7 +147,7 @@ impl PageIo for Nothing {
         Ok(())
     }
 
-    fn make_log_durable(&self, _lsn: u64) -> io::Result<()> {
+    fn make_log_durable(&self, _lsn: u64) -> Result<(), LogFault> {
         Ok(())
     }
 

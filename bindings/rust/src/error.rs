@@ -13,7 +13,7 @@ use std::result;
 /// Each has the number of `hojzmated.h` and its text, which [`Display`](fmt::Display) shows, except
 /// for [`Lent`](Error::Lent), [`VersionMismatch`](Error::VersionMismatch) and
 /// [`TooManyGuards`](Error::TooManyGuards), which are this crate's own, and
-/// [`Deadlock`](Error::Deadlock), which has that of `hojzmated_pager.h`.
+/// [`Deadlock`](Error::Deadlock) and [`LogLost`](Error::LogLost), which have those of `hojzmated_pager.h`.
 #[derive(Clone, Copy, Debug, PartialEq, Eq, Hash)]
 #[non_exhaustive]
 pub enum Error {
@@ -83,6 +83,9 @@ pub enum Error {
     /// 72, a number of `hojzmated_pager.h`: the call would wait for a latch that its own thread has. It comes
     /// of a [`Pager`](crate::Pager) that [notes them](crate::PagerConfig::notes_latches).
     Deadlock,
+    /// 79, a number of `hojzmated_pager.h`: the log failed, in this call or before. Calls that need it are refused
+    /// from then on: end the pager, and redo from the log.
+    LogLost,
     /// A number that a newer library has.
     Other(u16),
 }
@@ -115,8 +118,8 @@ static NUMBERED: [Error; 19] = [
 
 impl Error {
     /// Returns the number of `hojzmated.h`. Those of [`Lent`](Error::Lent),
-    /// [`VersionMismatch`](Error::VersionMismatch), [`TooManyGuards`](Error::TooManyGuards) and
-    /// [`Deadlock`](Error::Deadlock) are beyond those.
+    /// [`VersionMismatch`](Error::VersionMismatch), [`TooManyGuards`](Error::TooManyGuards),
+    /// [`Deadlock`](Error::Deadlock) and [`LogLost`](Error::LogLost) are beyond those.
     pub const fn number(self) -> u16 {
         match self {
             Error::BadGeometry => 1,
@@ -142,6 +145,7 @@ impl Error {
             Error::VersionMismatch { .. } => 61,
             Error::TooManyGuards => 62,
             Error::Deadlock => 72,
+            Error::LogLost => 79,
             Error::Other(number) => number,
         }
     }
@@ -191,6 +195,7 @@ impl fmt::Display for Error {
             Error::Deadlock => {
                 return f.write_str("the call would wait for a latch that this thread has");
             }
+            Error::LogLost => return f.write_str("the log failed, now or before"),
             Error::VersionMismatch { library } => {
                 let (major, minor, patch) = (library / 10_000, library / 100 % 100, library % 100);
                 return write!(
@@ -287,6 +292,7 @@ mod tests {
                 Error::Deadlock,
                 "the call would wait for a latch that this thread has",
             ),
+            (Error::LogLost, "the log failed, now or before"),
             (Error::Other(15), "unknown number (15)"),
         ] {
             assert_eq!(error.to_string(), text);

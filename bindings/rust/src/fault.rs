@@ -1,4 +1,4 @@
-//! What goes wrong with an engine's device and log: `ReadFault`, and `PagerError`, which a call has.
+//! What goes wrong with an engine's device and log: `ReadFault`, `LogFault`, and `PagerError`, which a call has.
 use crate::Error;
 use std::{error, fmt, io};
 
@@ -36,6 +36,41 @@ impl error::Error for ReadFault {
         match self {
             ReadFault::Device(source) => Some(source),
             ReadFault::WrongPage | ReadFault::Spoilt => None,
+        }
+    }
+}
+
+/// Why the log is not durable as far as it was to be made.
+#[derive(Debug)]
+#[non_exhaustive]
+pub enum LogFault {
+    /// The log failed: what was appended since it was durable last may be lost, and no later sync keeps it. By `?` an
+    /// [`io::Error`] is this.
+    Lost(io::Error),
+    /// The log does not reach so far yet, and nothing is lost.
+    NotYet,
+}
+
+impl From<io::Error> for LogFault {
+    fn from(error: io::Error) -> LogFault {
+        LogFault::Lost(error)
+    }
+}
+
+impl fmt::Display for LogFault {
+    fn fmt(&self, f: &mut fmt::Formatter<'_>) -> fmt::Result {
+        f.write_str(match self {
+            LogFault::Lost(_) => "the log failed",
+            LogFault::NotYet => "the log does not reach so far yet",
+        })
+    }
+}
+
+impl error::Error for LogFault {
+    fn source(&self) -> Option<&(dyn error::Error + 'static)> {
+        match self {
+            LogFault::Lost(source) => Some(source),
+            LogFault::NotYet => None,
         }
     }
 }
@@ -83,13 +118,23 @@ pub enum PagerError {
         /// The fault of the device.
         source: io::Error,
     },
-    /// The log could not be made durable.
+    /// The log failed as it was to be made durable, as [`LogFault::Lost`] told. Later calls that need it are
+    /// refused with [`LogLost`](PagerError::LogLost).
     Log {
         /// The LSN up to which it must be durable.
         lsn: u64,
         /// The fault of the log.
         source: io::Error,
     },
+    /// The log is not durable so far yet, as [`LogFault::NotYet`] told; or the call is made within
+    /// [`make_log_durable`](crate::PageIo::make_log_durable) and needs the log itself.
+    LogNotYet {
+        /// The LSN up to which it must be durable.
+        lsn: u64,
+    },
+    /// The log failed in an earlier call, or panicked. What was appended since it was durable last may be lost, though a
+    /// later sync goes well: end the pager, and redo from the log.
+    LogLost,
     /// The device could not be synced.
     Sync {
         /// The fault of the device.
@@ -102,7 +147,7 @@ pub enum PagerError {
 
 impl PagerError {
     /// Returns the refusal for this fault: 17 for a read, 19 where another page or a spoilt one was found, 18
-    /// for a write-out or a sync, 12 for the log.
+    /// for a write-out or a sync, 79 for a log that failed, and 12 for one that is not durable so far yet.
     pub fn refusal(&self) -> Error {
         match *self {
             PagerError::Refused(error) | PagerError::RefusedPage { error, .. } => error,
@@ -111,7 +156,8 @@ impl PagerError {
             PagerError::Write { .. } | PagerError::Sync { .. } | PagerError::SyncFailedBefore => {
                 Error::WriteFailed
             }
-            PagerError::Log { lsn, .. } => Error::NeedLog { lsn },
+            PagerError::Log { .. } | PagerError::LogLost => Error::LogLost,
+            PagerError::LogNotYet { lsn } => Error::NeedLog { lsn },
         }
     }
 
@@ -144,6 +190,10 @@ impl fmt::Display for PagerError {
             PagerError::Log { lsn, .. } => {
                 write!(f, "the log could not be made durable as far as LSN {lsn}")
             }
+            PagerError::LogNotYet { lsn } => {
+                write!(f, "the log is not durable as far as LSN {lsn} yet")
+            }
+            PagerError::LogLost => write!(f, "the log failed before"),
             PagerError::Sync { .. } => write!(f, "the device could not keep what was written"),
             PagerError::SyncFailedBefore => {
                 write!(f, "the device could not keep what was written before")
@@ -159,6 +209,8 @@ impl error::Error for PagerError {
             | PagerError::RefusedPage { .. }
             | PagerError::WrongPage { .. }
             | PagerError::Spoilt { .. }
+            | PagerError::LogNotYet { .. }
+            | PagerError::LogLost
             | PagerError::SyncFailedBefore => None,
             PagerError::Read { source, .. }
             | PagerError::Write { source, .. }

@@ -1,5 +1,5 @@
 //! `PageIo`, an engine's device and log.
-use crate::ReadFault;
+use crate::{LogFault, ReadFault};
 use std::io;
 use std::sync::Arc;
 
@@ -82,10 +82,16 @@ pub trait PageIo {
     /// Makes the log durable at least up to this LSN.
     ///
     /// # Errors
-    /// After an error nothing is written out. A [`Pager`](crate::Pager) asks again, maybe within
-    /// the same call, and takes a later success for good. So where a sync of the log failed, fail from then
-    /// on: what it has lost no later sync keeps.
-    fn make_log_durable(&self, lsn: u64) -> io::Result<()>;
+    /// After an error no page goes out that needs it.
+    ///
+    /// [`LogFault::Lost`] where the log failed. By `?` an [`io::Error`], such as that of a sync, is this: what a sync
+    /// has lost no later one keeps, though it goes well. So the pager asks no more, and each later call that needs
+    /// the log, each checkpoint and each sync is refused with [`PagerError::LogLost`](crate::PagerError::LogLost).
+    /// Other pages can be read, and go out where their records are durable. A panic counts as this too.
+    ///
+    /// [`LogFault::NotYet`] where the log ends before this LSN, or is not to be made durable so far now. The pager
+    /// asks again when it needs that record again, and for each LSN alone where it had asked for those of others too.
+    fn make_log_durable(&self, lsn: u64) -> Result<(), LogFault>;
 
     /// Makes all writes to the device durable, as by [`File::sync_data`](std::fs::File::sync_data).
     /// A checkpoint calls it, before the log is cut.
@@ -125,7 +131,7 @@ macro_rules! page_io_of {
                 (**self).write_pages(first, images, lsns)
             }
 
-            fn make_log_durable(&self, lsn: u64) -> io::Result<()> {
+            fn make_log_durable(&self, lsn: u64) -> Result<(), LogFault> {
                 (**self).make_log_durable(lsn)
             }
 

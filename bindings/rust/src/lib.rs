@@ -71,7 +71,7 @@ use hojzmated_sys as sys;
 
 pub use counts::{Totals, UnsavedPage};
 pub use error::{Error, Result};
-pub use fault::{PagerError, ReadFault};
+pub use fault::{LogFault, PagerError, ReadFault};
 pub use files::{Device, FileOptions, FilePages, Layout, Log, NoLog, OpenError, WithLog};
 pub use io::PageIo;
 pub use pager::{

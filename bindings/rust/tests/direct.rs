@@ -3,7 +3,7 @@
     target_os = "linux",
     any(target_arch = "x86_64", target_arch = "aarch64")
 ))]
-use hojzmated::{PageIo, Pager, PagerConfig, ReadFault};
+use hojzmated::{LogFault, PageIo, Pager, PagerConfig, ReadFault};
 use std::fs::{File, remove_file};
 use std::io;
 use std::os::unix::fs::{FileExt, OpenOptionsExt};
@@ -51,7 +51,7 @@ impl PageIo for Direct {
         self.0.write_all_at(images, first * SIZE as u64)
     }
 
-    fn make_log_durable(&self, _lsn: u64) -> io::Result<()> {
+    fn make_log_durable(&self, _lsn: u64) -> Result<(), LogFault> {
         Ok(())
     }
 

@@ -100,6 +100,7 @@ pub const HZ_PANICKED: u16 = 75;
 pub const HZ_FILE_IN_USE: u16 = 76;
 pub const HZ_NOT_A_FILE: u16 = 77;
 pub const HZ_FILE_READ_ONLY: u16 = 78;
+pub const HZ_LOG_LOST: u16 = 79;
 
 pub const HZ_SHARED: u32 = 1;
 pub const HZ_EXCLUSIVE: u32 = 2;
@@ -108,3 +109,4 @@ pub const HZ_TRY: u32 = 16;
 
 pub const HZ_NO_PERIOD: u64 = u64::MAX;
 pub const HZ_IO_WRONG_PAGE: c_int = -1;
+pub const HZ_IO_NOT_YET: c_int = -2;

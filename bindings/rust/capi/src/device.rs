@@ -1,8 +1,10 @@
 //! The device and log of a pager: the engine's callbacks, or a page file.
-use crate::abi::{HZ_BAD_SETTINGS, HZ_IO_WRONG_PAGE, hz_io, hz_pager_config};
+use crate::abi::{HZ_BAD_SETTINGS, HZ_IO_NOT_YET, HZ_IO_WRONG_PAGE, hz_io, hz_pager_config};
 use crate::fault::{self, EBADF, Refusal, refusal};
 use crate::held;
-use hojzmated::{Device as _, FileOptions, FilePages, Layout, OpenError, PageIo, ReadFault};
+use hojzmated::{
+    Device as _, FileOptions, FilePages, Layout, LogFault, OpenError, PageIo, ReadFault,
+};
 use std::cell::{Cell, RefCell};
 use std::ffi::{c_int, c_void};
 use std::fs::File;
@@ -214,14 +216,16 @@ impl PageIo for Device {
         }
     }
 
-    fn make_log_durable(&self, lsn: u64) -> io::Result<()> {
-        match self {
+    fn make_log_durable(&self, lsn: u64) -> Result<(), LogFault> {
+        let io = match self {
             // There is no log.
-            Device::File(_) => Ok(()),
-            // SAFETY: as the header says.
-            Device::Callbacks(io) => outcome(called(self, || unsafe {
-                (io.make_log_durable)(io.own, lsn)
-            })),
+            Device::File(_) => return Ok(()),
+            Device::Callbacks(io) => io,
+        };
+        // SAFETY: as the header says.
+        match called(self, || unsafe { (io.make_log_durable)(io.own, lsn) }) {
+            HZ_IO_NOT_YET => Err(LogFault::NotYet),
+            answer => Ok(outcome(answer)?),
         }
     }
 

@@ -129,9 +129,9 @@ impl From<PagerError> for hz_pager_fault {
                 hz_pager_fault::of(HZ_WRONG_PAGE).at(*page)
             }
             PagerError::RefusedPage { page, error } => hz_pager_fault::from(*error).at(*page),
-            PagerError::Log { source, .. } => hz_pager_fault {
-                error: errno_of(source),
-                ..error.refusal().into()
+            PagerError::Log { lsn, source } => hz_pager_fault {
+                lsn: *lsn,
+                ..of_error(HZ_LOG_LOST, source)
             },
             PagerError::Sync { source } => of_error(HZ_SYNC_FAILED, source),
             PagerError::SyncFailedBefore => hz_pager_fault::of(HZ_SYNC_FAILED),
@@ -192,7 +192,7 @@ fn text_of(number: u16, has_page: bool) -> &'static str {
         HZ_BAD_GEOMETRY => "the number of pages or the page size is out of its limits",
         HZ_BAD_SETTINGS => "a setting is out of its limits",
         HZ_NO_VICTIM => "all pages that could make way are pinned",
-        HZ_NEED_LOG => "the log could not be made durable",
+        HZ_NEED_LOG => "the log does not reach so far yet",
         HZ_PAGE_PINNED => "it is still fixed",
         HZ_BUSY => "a latch is not free, or a page is still fixed",
         HZ_UNKNOWN_PASS => "this thread has not fixed the page, or has given it back",
@@ -222,6 +222,7 @@ fn text_of(number: u16, has_page: bool) -> &'static str {
         HZ_FILE_IN_USE => "another pager or process has the file, or it cannot be locked",
         HZ_NOT_A_FILE => "it is a directory, a pipe or a device, and no file",
         HZ_FILE_READ_ONLY => "the file is open for reading alone",
+        HZ_LOG_LOST => "the log failed",
         _ => "a number that a newer core has",
     }
 }
@@ -256,7 +257,7 @@ mod tests {
             .map(|(_, number)| text_of(number.trim_end_matches(';').parse().unwrap_or(0), true))
             .chain([text_of(0, true), text_of(999, true)])
             .collect();
-        assert_eq!(texts.len(), 29);
+        assert_eq!(texts.len(), 30);
         for (place, text) in texts.iter().enumerate() {
             assert!(!texts[..place].contains(text), "{text}");
         }

@@ -1,4 +1,6 @@
 //! The header and this crate have the same structs, numbers and calls.
+use hojzmated::Error;
+
 const HEADER: &str = include_str!("../../../../include/hojzmated_pager.h");
 const CORE: &str = include_str!("../../../../include/hojzmated.h");
 const ABI: &str = include_str!("abi.rs");
@@ -154,7 +156,7 @@ fn numbers() {
         assert!(lines.iter().any(|line| headers.contains(line)), "{name}");
         count += 1;
     }
-    assert_eq!(count, 33);
+    assert_eq!(count, 35);
     let own = between(&headers, "enum hz_pager_refusal {", "}").unwrap().0;
     let how = between(&headers, "enum hz_how {", "}").unwrap().0;
     for line in own.lines().chain(how.lines()) {
@@ -164,9 +166,11 @@ fn numbers() {
     }
 }
 
-/// The crate of the pager gives a deadlock the number of the header.
+/// The crate of the pager gives its own refusals the numbers of the header.
 #[test]
-fn number_of_a_deadlock() {
-    let line = format!("HZ_DEADLOCK = {},", hojzmated::Error::Deadlock.number());
-    assert!(HEADER.contains(&line));
+fn numbers_of_the_crate() {
+    let own = [("DEADLOCK", Error::Deadlock), ("LOG_LOST", Error::LogLost)];
+    for (name, error) in own {
+        assert!(HEADER.contains(&format!("HZ_{name} = {},", error.number())));
+    }
 }

@@ -138,12 +138,12 @@ impl Disk {
         for file in files {
             file.lose_power(*sector, random);
         }
-        state.start();
+        state.is_off = false;
     }
 
     /// The process has ended, and the power was never off: what was written is seen.
     pub fn restart(&self) {
-        self.state().start();
+        self.state().is_off = false;
     }
 
     /// What comes after a request at which the disk went off. After [`Fault::Cut`] power is lost, and is
@@ -154,7 +154,7 @@ impl Disk {
         if let Some(Fault::Kill(_)) = state.fault {
             let soon = 1 + state.random.below(SOON) as u64;
             state.fault = Some(Fault::Cut(state.counts.all + soon));
-            state.start();
+            state.is_off = false;
         } else {
             drop(state);
             self.lose_power();
@@ -213,11 +213,6 @@ impl Disk {
         Ok(())
     }
 
-    /// Whether a sync of the file failed since the process was started.
-    pub(crate) fn has_lost(&self, file: usize) -> bool {
-        self.state().files[file].has_lost
-    }
-
     pub(crate) fn save(&self, file: usize) -> Vec<u8> {
         self.state().files[file].save()
     }
@@ -236,12 +231,6 @@ impl Disk {
 }
 
 impl State {
-    /// A process is started, over what there is.
-    fn start(&mut self) {
-        self.is_off = false;
-        self.files.iter_mut().for_each(|it| it.has_lost = false);
-    }
-
     /// Counts a request. Gives whether it fails.
     fn request(&mut self, of_kind: fn(&mut Counts) -> &mut u64, kind: fn(u64) -> Fault) -> bool {
         self.counts.all += 1;

@@ -30,8 +30,6 @@ pub(crate) struct Content {
     /// What was changed and not synced, each with its number, and how many changes there were in all.
     waiting: Vec<(usize, Change)>,
     changes: usize,
-    /// Whether a sync failed since the process was started.
-    pub(crate) has_lost: bool,
 }
 
 impl Change {
@@ -99,7 +97,6 @@ impl Content {
     pub(crate) fn fail_to_sync(&mut self, changes: usize, random: &mut Random) {
         self.waiting
             .retain(|it| it.0 >= changes || random.below(2) == 0);
-        self.has_lost = true;
     }
 
     /// What is kept, and then each change that waits: its place, its length and its bytes. A new length has the place

@@ -1,6 +1,6 @@
 //! `DiskPages`: a page file and a log as a pager wants them.
 use crate::DiskFile;
-use hojzmated::{PageIo, ReadFault};
+use hojzmated::{LogFault, PageIo, ReadFault};
 use std::io;
 use std::os::unix::fs::FileExt;
 
@@ -24,12 +24,8 @@ impl PageIo for DiskPages {
         self.pages.write_all_at(image, page * image.len() as u64)
     }
 
-    fn make_log_durable(&self, _lsn: u64) -> io::Result<()> {
-        // The pager asks again after a failure, and what a failed sync has lost no later one keeps.
-        if self.log.disk.has_lost(self.log.number) {
-            return Err(io::Error::other("a sync of the log failed before"));
-        }
-        self.log.sync_data()
+    fn make_log_durable(&self, _lsn: u64) -> Result<(), LogFault> {
+        Ok(self.log.sync_data()?)
     }
 
     fn sync(&self) -> io::Result<()> {

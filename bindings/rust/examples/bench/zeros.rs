@@ -1,5 +1,5 @@
 //! Pages of zeros, which need no device, and a log that is always durable.
-use hojzmated::{PageIo, ReadFault};
+use hojzmated::{LogFault, PageIo, ReadFault};
 use std::io;
 
 pub struct Zeros;
@@ -14,7 +14,7 @@ impl PageIo for Zeros {
         Ok(())
     }
 
-    fn make_log_durable(&self, _lsn: u64) -> io::Result<()> {
+    fn make_log_durable(&self, _lsn: u64) -> Result<(), LogFault> {
         Ok(())
     }
 

@@ -1,5 +1,5 @@
 //! `Device` and `Log`, the two halves of a `PageIo`, and `WithLog`, which joins them.
-use crate::{PageIo, ReadFault};
+use crate::{LogFault, PageIo, ReadFault};
 use std::io;
 use std::sync::Arc;
 
@@ -78,9 +78,9 @@ pub trait Log {
     /// a page.
     ///
     /// # Errors
-    /// After an error nothing is written out. The pager asks again, and takes a later success for good. So
-    /// where a sync of the log failed, fail from then on: what it has lost no later sync keeps.
-    fn make_durable(&self, lsn: u64) -> io::Result<()>;
+    /// [`LogFault::Lost`] where the log failed, as by `?` for an [`io::Error`]: the pager asks no more, and refuses each
+    /// later call that needs the log. [`LogFault::NotYet`] where the log ends before this LSN.
+    fn make_durable(&self, lsn: u64) -> Result<(), LogFault>;
 }
 
 /// The log of an engine that has none: each LSN counts as durable, and no page waits. After a crash pages
@@ -89,7 +89,7 @@ pub trait Log {
 pub struct NoLog;
 
 impl Log for NoLog {
-    fn make_durable(&self, _lsn: u64) -> io::Result<()> {
+    fn make_durable(&self, _lsn: u64) -> Result<(), LogFault> {
         Ok(())
     }
 }
@@ -125,7 +125,7 @@ impl<D: Device, L: Log> PageIo for WithLog<D, L> {
         self.device.write_pages(first, images, lsns)
     }
 
-    fn make_log_durable(&self, lsn: u64) -> io::Result<()> {
+    fn make_log_durable(&self, lsn: u64) -> Result<(), LogFault> {
         self.log.make_durable(lsn)
     }
 
@@ -169,7 +169,7 @@ macro_rules! device_and_log_of {
         }
 
         impl<T: Log + ?Sized> Log for $owner {
-            fn make_durable(&self, lsn: u64) -> io::Result<()> {
+            fn make_durable(&self, lsn: u64) -> Result<(), LogFault> {
                 (**self).make_durable(lsn)
             }
         }

@@ -14,25 +14,15 @@ use std::{fmt, io};
 /// joined by [`with_log`](Device::with_log). [`FileOptions`](crate::FileOptions) opens one.
 ///
 /// ```
-/// use hojzmated::{Device, FileOptions, Layout, Log, Pager};
+/// use hojzmated::{Device, FileOptions, Layout, Log, LogFault, Pager};
 /// use std::fs::File;
-/// use std::io;
-/// use std::sync::atomic::{AtomicBool, Ordering};
 ///
 /// /// The engine's log, of which this shows its sync alone.
-/// struct EngineLog {
-///     file: File,
-///     is_lost: AtomicBool,
-/// }
+/// struct EngineLog(File);
 ///
 /// impl Log for EngineLog {
-///     fn make_durable(&self, _lsn: u64) -> io::Result<()> {
-///         if self.is_lost.swap(true, Ordering::SeqCst) {
-///             return Err(io::Error::other("what a sync has lost no later one keeps"));
-///         }
-///         self.file.sync_data()?;
-///         self.is_lost.store(false, Ordering::SeqCst);
-///         Ok(())
+///     fn make_durable(&self, _lsn: u64) -> Result<(), LogFault> {
+///         Ok(self.0.sync_data()?) // once it failed, the pager asks no more
 ///     }
 /// }
 ///
@@ -41,7 +31,7 @@ use std::{fmt, io};
 /// # std::fs::create_dir_all(&folder)?;
 /// let options = FileOptions::new(4064).layout(Layout::Checked).grown_to(1_000);
 /// let pages = options.create(folder.join("pages"))?;
-/// let log = EngineLog { file: File::create(folder.join("log"))?, is_lost: false.into() };
+/// let log = EngineLog(File::create(folder.join("log"))?);
 /// let pager = Pager::new(&pages.config(64), pages.with_log(log))?;
 /// pager.write(7)?.put(100, b"forty-two", 1)?; // under the log record 1
 /// pager.checkpoint()?;

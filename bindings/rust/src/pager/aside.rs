@@ -1,7 +1,7 @@
 //! Victims that could not be written out. The call that found that sets them aside: it goes on with
 //! other victims, and is refused only where none is left.
 use super::guards::PagePin;
-use super::log::LostLog;
+use super::log::NotReached;
 use super::part::{Locked, Part, State};
 use crate::{Error, PagerError, Result};
 
@@ -53,12 +53,12 @@ pub(super) struct Failed<'a> {
     pages: Vec<SetAside<'a>>,
     /// The first fault.
     fault: Option<PagerError>,
-    pub(super) lost_log: LostLog,
+    pub(super) not_reached: NotReached,
 }
 
 impl<'a> Failed<'a> {
     pub(super) fn note(&mut self, fault: PagerError) {
-        self.lost_log.note(&fault);
+        self.not_reached.note(&fault);
         self.fault.get_or_insert(fault);
     }
 

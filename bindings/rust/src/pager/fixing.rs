@@ -19,7 +19,7 @@ use std::sync::atomic::{AtomicU64, AtomicUsize, Ordering};
 /// over it.
 ///
 /// ```
-/// use hojzmated::{PageIo, ReadFault, PagerConfig, Pager};
+/// use hojzmated::{LogFault, PageIo, Pager, PagerConfig, ReadFault};
 /// use std::{io, thread};
 ///
 /// /// A device that has zeros, and keeps nothing.
@@ -33,7 +33,7 @@ use std::sync::atomic::{AtomicU64, AtomicUsize, Ordering};
 /// #   fn write_page(&self, _page: u64, _image: &mut [u8], _lsn: u64) -> io::Result<()> {
 /// #       Ok(())
 /// #   }
-/// #   fn make_log_durable(&self, _lsn: u64) -> io::Result<()> {
+/// #   fn make_log_durable(&self, _lsn: u64) -> Result<(), LogFault> {
 /// #       Ok(())
 /// #   }
 /// #   fn sync(&self) -> io::Result<()> {
@@ -108,7 +108,7 @@ use std::sync::atomic::{AtomicU64, AtomicUsize, Ordering};
 ///
 /// These functions may call the pager, but what they wait for there may wait for them. So such a call
 /// is refused where it would wait for the function that it is in: with [`Error::Busy`] for a page that
-/// the function is to read or write out; with [`PagerError::Log`] in `make_log_durable`, where no page can
+/// the function is to read or write out; with [`PagerError::LogNotYet`] in `make_log_durable`, where no page can
 /// make way but those whose records are not durable; with [`PagerError::Sync`] in [`sync`](PageIo::sync).
 /// And it waits for a page that another thread reads or writes out, and for its latch, no longer than
 /// [`PagerConfig::pin_wait`] in all, whatever others do meanwhile. After that it is refused with
@@ -153,7 +153,13 @@ use std::sync::atomic::{AtomicU64, AtomicUsize, Ordering};
 /// the call goes on with the next one, and keeps the page in its frame meanwhile, without a latch. It counts
 /// as used just then. So a call is refused only where no page can make way, with the first fault. If other
 /// pages are pinned it waits for them before, for 5 milliseconds at most: so long no other call tries the pages
-/// that it keeps. It does not ask the log again for what that could not do.
+/// that it keeps. It does not ask the log again for what that does not reach yet.
+///
+/// A log that [failed](crate::LogFault::Lost) or panicked is not asked again, by no call, and
+/// [`mark`](Pager::mark) tells nothing more: a later sync that goes well says nothing of what an earlier one has lost. So no
+/// page goes out under a record that is lost. Each call that needs such a record, each checkpoint and each sync is
+/// refused with [`PagerError::LogLost`], for as long as the pager is there. Pages can be read as long as others can
+/// make way, and those whose records were durable before go out.
 ///
 /// Where the device or the log panics, so does the call. A later one chooses another victim: the next one,
 /// or with a correlated period of 0 one after up to K such calls. Where the pager is dropped, pages that
@@ -238,7 +244,11 @@ impl<F> Pager<F> {
         self.io
     }
 
-    /// Notes that the log is durable up to this LSN, as after the engine made it durable itself.
+    /// Notes that the log is durable up to this LSN, as after the engine made it durable itself. After the log
+    /// [failed](crate::LogFault::Lost) it notes nothing.
+    ///
+    /// An engine that syncs its log by itself marks nothing after a sync of its own that failed: the pager does not
+    /// know of that until [`make_log_durable`](PageIo::make_log_durable) tells it.
     pub fn mark(&self, lsn: u64) {
         self.log.mark(lsn);
     }
@@ -279,8 +289,9 @@ impl<F: PageIo> Pager<F> {
     /// may be written out for that.
     ///
     /// # Errors
-    /// [`PagerError::Read`] where the device failed. [`PagerError::Write`] and [`PagerError::Log`] where no
-    /// page could make way, since the device or the log failed for one of them, which is told.
+    /// [`PagerError::Read`] where the device failed. [`PagerError::Write`], [`PagerError::Log`],
+    /// [`PagerError::LogNotYet`] and [`PagerError::LogLost`] where no page could make way, since the device or
+    /// the log failed for one of them, which is told.
     /// [`PagerError::Refused`] with [`OutOfPage`](Error::OutOfPage) where the file has
     /// no such page; [`NoVictim`](Error::NoVictim) where all possible victims were pinned for too
     /// long; [`PagerError::WrongPage`] where another page was found in the page's place, and
@@ -574,7 +585,7 @@ impl<F: PageIo> Pager<F> {
     }
 
     /// Makes the log record of the part's victim durable, or sets the victim aside. It does not ask the
-    /// log again for what that could not do. The part is locked then.
+    /// log again for what that does not reach yet. The part is locked then.
     fn log_victim<'a>(
         &self,
         part: &'a Part,
@@ -583,7 +594,7 @@ impl<F: PageIo> Pager<F> {
         failed: &mut Failed<'a>,
     ) -> Result<Locked<'a>, PagerError> {
         let victim = state.pool.victim().ok_or(Error::NoVictim)?;
-        if failed.lost_log.check(&self.log, lsn).is_ok() {
+        if failed.not_reached.check(&self.log, lsn).is_ok() {
             drop(state);
             let unlogged = Unlogged::new(part, victim);
             let reached = self.reach_log(part, lsn);

@@ -406,12 +406,12 @@ impl<'a> PageMut<'a> {
     /// bytes of the range as they are, and what it leaves there is in the page afterwards.
     ///
     /// ```
-    /// # use hojzmated::{PageIo, ReadFault, PagerConfig, Pager};
+    /// # use hojzmated::{LogFault, PageIo, Pager, PagerConfig, ReadFault};
     /// # struct Zeros;
     /// # impl PageIo for Zeros {
     /// #     fn read_page(&self, _: u64, image: &mut [u8]) -> Result<(), ReadFault> { Ok(image.fill(0)) }
     /// #     fn write_page(&self, _: u64, _: &mut [u8], _: u64) -> std::io::Result<()> { Ok(()) }
-    /// #     fn make_log_durable(&self, _: u64) -> std::io::Result<()> { Ok(()) }
+    /// #     fn make_log_durable(&self, _: u64) -> Result<(), LogFault> { Ok(()) }
     /// #     fn sync(&self) -> std::io::Result<()> { Ok(()) }
     /// # }
     /// # fn main() -> Result<(), hojzmated::PagerError> {

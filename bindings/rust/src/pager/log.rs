@@ -1,14 +1,15 @@
-//! How far the log is durable, and whose turn it is to make it durable further.
+//! How far the log is durable, whose turn it is to make it durable further, and whether it failed.
 use super::within::{self, Work};
-use crate::{PageIo, PagerError};
+use crate::{LogFault, PageIo, PagerError};
+use std::mem;
 use std::sync::atomic::{AtomicU64, Ordering};
 use std::sync::{Condvar, Mutex, MutexGuard, PoisonError};
-use std::{io, mem};
 
 /// The LSN up to which the engine's log is durable. One thread at a time makes it durable further,
 /// for all threads that wait.
 #[derive(Default)]
 pub(super) struct Log {
+    /// It changes under the lock of the turn, and no more once the log is lost.
     durable: AtomicU64,
     turn: Mutex<Turn>,
     ended: Condvar,
@@ -17,37 +18,44 @@ pub(super) struct Log {
 #[derive(Default)]
 struct Turn {
     is_taken: bool,
+    /// The log failed or panicked. It is not asked again.
+    is_lost: bool,
     /// The greatest LSN that a thread waits for.
     wanted: u64,
     /// The number of times that a thread slept for another's turn.
     waits: u64,
 }
 
-/// What a call of the pager found that the log could not do: the least LSN up to which it could not be
-/// made durable.
-#[derive(Default)]
-pub(super) struct LostLog(Option<u64>);
+impl Turn {
+    fn check(&self) -> Result<(), PagerError> {
+        match self.is_lost {
+            false => Ok(()),
+            true => Err(PagerError::LogLost),
+        }
+    }
+}
 
-impl LostLog {
+/// What a call of the pager found that the log does not reach yet: the least LSN up to which it could not
+/// be made durable.
+#[derive(Default)]
+pub(super) struct NotReached(Option<u64>);
+
+impl NotReached {
     pub(super) fn note(&mut self, fault: &PagerError) {
-        if let PagerError::Log { lsn, .. } = fault {
+        if let PagerError::LogNotYet { lsn } = fault {
             self.0 = self.0.into_iter().chain([*lsn]).min();
         }
     }
 
     /// # Errors
-    /// [`PagerError::Log`] where the log could not be made durable so far before, and is not by now.
+    /// [`PagerError::LogNotYet`] where the log did not reach so far before, and does not by now.
     pub(super) fn check(&self, log: &Log, lsn: u64) -> Result<(), PagerError> {
-        if self.0.is_none_or(|lost| lsn < lost) || log.durable() >= lsn {
+        if self.0.is_none_or(|least| lsn < least) || log.durable() >= lsn {
             return Ok(());
         }
-        let source = io::Error::other("the log could not be made durable just before");
-        Err(PagerError::Log { lsn, source })
+        Err(PagerError::LogNotYet { lsn })
     }
 }
-
-/// What a call is told that would wait for the function of the engine in which it is.
-const OWN_TURN: &str = "make_log_durable called the pager, which needs the log for that";
 
 impl Log {
     pub(super) fn durable(&self) -> u64 {
@@ -59,20 +67,31 @@ impl Log {
         self.turn().waits
     }
 
-    /// Notes that the log is durable up to this LSN.
+    /// Notes that the log is durable up to this LSN, unless it is lost: a later sync says nothing of what an
+    /// earlier one has lost.
     pub(super) fn mark(&self, lsn: u64) {
-        self.durable.fetch_max(lsn, Ordering::AcqRel);
+        let turn = self.turn();
+        if !turn.is_lost {
+            self.durable.fetch_max(lsn, Ordering::AcqRel);
+        }
+    }
+
+    /// # Errors
+    /// [`PagerError::LogLost`] where the log failed before.
+    pub(super) fn check(&self) -> Result<(), PagerError> {
+        self.turn().check()
     }
 
     /// Makes the log durable up to this LSN, for the pager with this number. A thread that comes while
     /// another does this waits, and has the next turn if that was not far enough.
     ///
-    /// Who has the turn asks for the greatest LSN that a thread waits for. If that can't be had it asks
-    /// for its own alone: the others' faults are not its own.
+    /// Who has the turn asks for the greatest LSN that a thread waits for. If the log does not reach so far
+    /// it asks for its own alone: that of the others may never come.
     pub(super) fn reach<F: PageIo>(&self, io: &F, pager: u64, own: u64) -> Result<(), PagerError> {
         let mut is_alone = false;
         let mut turn = self.turn();
         while self.durable() < own {
+            turn.check()?;
             if turn.is_taken {
                 turn = self.wait_for_turn(turn, pager, own)?;
                 continue;
@@ -85,18 +104,20 @@ impl Log {
                 own.max(mem::take(&mut turn.wanted))
             };
             drop(turn);
-            if let Err(source) = self.make_durable(io, pager, wanted) {
-                if wanted == own {
-                    return Err(PagerError::Log { lsn: own, source });
+            match self.make_durable(io, pager, wanted) {
+                Ok(()) => {}
+                Err(LogFault::Lost(source)) => return Err(PagerError::Log { lsn: own, source }),
+                Err(LogFault::NotYet) if wanted == own => {
+                    return Err(PagerError::LogNotYet { lsn: own });
                 }
-                is_alone = true;
+                Err(LogFault::NotYet) => is_alone = true,
             }
             turn = self.turn();
         }
         Ok(())
     }
 
-    /// Sleeps until a turn ends.
+    /// Sleeps until a turn ends. It does not within the turn of this thread, which would not end.
     fn wait_for_turn<'a>(
         &'a self,
         mut turn: MutexGuard<'a, Turn>,
@@ -104,8 +125,7 @@ impl Log {
         own: u64,
     ) -> Result<MutexGuard<'a, Turn>, PagerError> {
         if within::is_within(pager, |work| work == Work::Log) {
-            let source = io::Error::new(io::ErrorKind::Deadlock, OWN_TURN);
-            return Err(PagerError::Log { lsn: own, source });
+            return Err(PagerError::LogNotYet { lsn: own });
         }
         turn.wanted = turn.wanted.max(own);
         turn.waits += 1;
@@ -114,9 +134,14 @@ impl Log {
     }
 
     /// Has the engine make the log durable, in this thread's turn, which ends here.
-    fn make_durable<F: PageIo>(&self, io: &F, pager: u64, lsn: u64) -> io::Result<()> {
-        let _taken = Taken(self);
-        within::call(pager, Work::Log, || io.make_log_durable(lsn))?;
+    fn make_durable<F: PageIo>(&self, io: &F, pager: u64, lsn: u64) -> Result<(), LogFault> {
+        let mut taken = Taken {
+            log: self,
+            is_lost: true,
+        };
+        let made = within::call(pager, Work::Log, || io.make_log_durable(lsn));
+        taken.is_lost = matches!(made, Err(LogFault::Lost(_)));
+        made?;
         self.mark(lsn);
         Ok(())
     }
@@ -126,12 +151,19 @@ impl Log {
     }
 }
 
-/// A thread's turn, which ends on every way out.
-struct Taken<'log>(&'log Log);
+/// A thread's turn, which ends on every way out. By a panic the log is lost too: what failed before it is not
+/// known.
+struct Taken<'log> {
+    log: &'log Log,
+    is_lost: bool,
+}
 
 impl Drop for Taken<'_> {
     fn drop(&mut self) {
-        self.0.turn().is_taken = false;
-        self.0.ended.notify_all();
+        let mut turn = self.log.turn();
+        turn.is_taken = false;
+        turn.is_lost |= self.is_lost;
+        drop(turn);
+        self.log.ended.notify_all();
     }
 }

@@ -10,13 +10,13 @@ use std::sync::Arc;
 /// A [`PagePin`] that owns its pager, so it may be kept in a struct, or sent to a thread.
 ///
 /// ```
-/// # use hojzmated::{OwnedPin, PageIo, ReadFault, PagerConfig, Pager};
+/// # use hojzmated::{LogFault, OwnedPin, PageIo, Pager, PagerConfig, ReadFault};
 /// # use std::sync::Arc;
 /// # struct Zeros;
 /// # impl PageIo for Zeros {
 /// #     fn read_page(&self, _: u64, image: &mut [u8]) -> Result<(), ReadFault> { Ok(image.fill(0)) }
 /// #     fn write_page(&self, _: u64, _: &mut [u8], _: u64) -> std::io::Result<()> { Ok(()) }
-/// #     fn make_log_durable(&self, _: u64) -> std::io::Result<()> { Ok(()) }
+/// #     fn make_log_durable(&self, _: u64) -> Result<(), LogFault> { Ok(()) }
 /// #     fn sync(&self) -> std::io::Result<()> { Ok(()) }
 /// # }
 /// # fn main() -> Result<(), hojzmated::PagerError> {

@@ -447,7 +447,7 @@ impl Part {
 #[allow(clippy::unwrap_used)]
 mod tests {
     use super::*;
-    use crate::{PageIo, Pager, PagerConfig, PagerError, ReadFault};
+    use crate::{LogFault, PageIo, Pager, PagerConfig, PagerError, ReadFault};
     use std::io;
     use std::time::Duration;
 
@@ -464,7 +464,7 @@ mod tests {
             Ok(())
         }
 
-        fn make_log_durable(&self, _lsn: u64) -> io::Result<()> {
+        fn make_log_durable(&self, _lsn: u64) -> Result<(), LogFault> {
             Ok(())
         }
 

@@ -1,7 +1,7 @@
 //! A pager's flushes and checkpoints: which pages go out, and neighbours in one write.
 use super::Pager;
 use super::guards::PageRef;
-use super::log::LostLog;
+use super::log::NotReached;
 use super::part::{FEW_PAGES, Part};
 use super::seats::list_of;
 use super::within::{self, Waited, Work};
@@ -143,17 +143,19 @@ impl<F: PageIo> Pager<F> {
     /// durable once more.
     ///
     /// # Errors
-    /// [`PagerError::Write`] and [`PagerError::Log`] where the device or the log failed, and the
-    /// page is unsaved. [`PagerError::Refused`] with [`OutOfPage`](Error::OutOfPage) where the file
+    /// After each of these the page is unsaved. [`PagerError::Write`] where the device failed;
+    /// [`PagerError::Log`] where the log failed, and [`PagerError::LogLost`] where it had failed before and
+    /// the page has a record that was not durable then; [`PagerError::LogNotYet`] where the log does not
+    /// reach that record yet. [`PagerError::Refused`] with [`OutOfPage`](Error::OutOfPage) where the file
     /// has no such page, with [`OutOfMemory`](Error::OutOfMemory), and in a function of [`PageIo`]
     /// with [`Busy`](Error::Busy).
     pub fn flush(&self, page: u64) -> Result<(), PagerError> {
-        self.flush_one(page, &mut LostLog::default())
+        self.flush_one(page, &mut NotReached::default())
     }
 
-    /// The same in a call that may have found that the log could not be made durable.
-    fn flush_one(&self, page: u64, lost: &mut LostLog) -> Result<(), PagerError> {
-        match self.take_out(page, lost)? {
+    /// The same in a call that may have found that the log does not reach so far.
+    fn flush_one(&self, page: u64, not_reached: &mut NotReached) -> Result<(), PagerError> {
+        match self.take_out(page, not_reached)? {
             Some((lsn, writing)) => self.write_out(page, lsn, writing),
             None => Ok(()),
         }
@@ -165,7 +167,7 @@ impl<F: PageIo> Pager<F> {
     fn take_out(
         &self,
         page: u64,
-        lost: &mut LostLog,
+        not_reached: &mut NotReached,
     ) -> Result<Option<(u64, Writing<'_>)>, PagerError> {
         let (part, own) = self.place(page)?;
         let mut latch: Option<PageRef<'_>> = None;
@@ -198,7 +200,7 @@ impl<F: PageIo> Pager<F> {
                     drop(state);
                     latch = latch.filter(|_| rounds >= MOST_ROUNDS);
                     rounds += 1;
-                    self.reach_unless_lost(lsn, lost)?;
+                    self.reach_once(lsn, not_reached)?;
                     part.lock().pool.mark(0, self.log.durable())?;
                 }
                 Err(Error::Busy) if latch.is_some() => {
@@ -215,29 +217,33 @@ impl<F: PageIo> Pager<F> {
     }
 
     /// Makes the log durable up to this LSN, but asks it for nothing that it could not do in this call.
-    fn reach_unless_lost(&self, lsn: u64, lost: &mut LostLog) -> Result<(), PagerError> {
-        lost.check(&self.log, lsn)?;
+    fn reach_once(&self, lsn: u64, not_reached: &mut NotReached) -> Result<(), PagerError> {
+        not_reached.check(&self.log, lsn)?;
         let reached = self.log.reach(&self.io, self.number, lsn);
-        reached.inspect_err(|fault| lost.note(fault))
+        reached.inspect_err(|fault| not_reached.note(fault))
     }
 
-    /// Makes the log durable once for all of these pages. If that cannot be done, the log is asked for the
-    /// page of the least LSN: so one that can do nothing is not asked for each page.
-    fn reach_for_all(&self, pages: &[UnsavedPage], lost: &mut LostLog) -> Result<(), PagerError> {
+    /// Makes the log durable once for all of these pages. If it does not reach so far, it is asked for the
+    /// page of the least LSN: so one that ends before all of them is not asked for each.
+    fn reach_for_all(
+        &self,
+        pages: &[UnsavedPage],
+        not_reached: &mut NotReached,
+    ) -> Result<(), PagerError> {
         let durable = self.log.durable();
         let lsns = pages.iter().map(|it| it.lsn).filter(|lsn| *lsn > durable);
         let (least, greatest) = (lsns.clone().min(), lsns.max());
-        let reached = self.reach_unless_lost(greatest.unwrap_or(0), lost);
+        let reached = self.reach_once(greatest.unwrap_or(0), not_reached);
         if reached.is_err() {
-            let _ = self.reach_unless_lost(least.unwrap_or(0), lost);
+            let _ = self.reach_once(least.unwrap_or(0), not_reached);
         }
         reached
     }
 
     /// Writes out those of these pages that are unsaved, in the order of the file, as
-    /// [`flush`](Pager::flush) does. It makes the log durable once for all of them. If that fails, it
-    /// asks the log once more for the page of the least LSN, and then for no record that is as late as one
-    /// for which the log failed. Several threads may do so at once, each with a share of the pages.
+    /// [`flush`](Pager::flush) does. It makes the log durable once for all of them. If the log does not reach
+    /// so far yet, it asks once more for the page of the least LSN, and then for no record that is as late as
+    /// one which it did not reach. Of a log that failed it asks nothing more. Several threads may do so at once, each with a share of the pages.
     ///
     /// Pages side by side go out by one call of [`PageIo::write_pages`], up to
     /// [`PageIo::most_pages`] and 256 pages and 1 MiB: but a page whose record is not durable, that a
@@ -276,16 +282,16 @@ impl<F: PageIo> Pager<F> {
 
     /// Writes these pages out, which are in the order of the file.
     fn flush_all(&self, pages: &[UnsavedPage]) -> Result<(), PagerError> {
-        let mut lost = LostLog::default();
-        let mut done = self.reach_for_all(pages, &mut lost);
+        let mut not_reached = NotReached::default();
+        let mut done = self.reach_for_all(pages, &mut not_reached);
         let most = self.most_in_a_row();
         let mut rest = pages;
         while let Some(first) = rest.first() {
             let numbers = rest.iter().map(|it| it.page).take(most);
             let row = (first.page..).zip(numbers).take_while(|(a, b)| a == b);
             let (count, flushed) = match row.count() {
-                1 => (1, self.flush_one(first.page, &mut lost)),
-                count => self.flush_row(first.page, count, &mut lost),
+                1 => (1, self.flush_one(first.page, &mut not_reached)),
+                count => self.flush_row(first.page, count, &mut not_reached),
             };
             rest = &rest[count..];
             done = done.and(flushed);
@@ -299,9 +305,9 @@ impl<F: PageIo> Pager<F> {
         &self,
         first: u64,
         count: usize,
-        lost: &mut LostLog,
+        not_reached: &mut NotReached,
     ) -> (usize, Result<(), PagerError>) {
-        let (lsn, writing) = match self.take_out(first, lost) {
+        let (lsn, writing) = match self.take_out(first, not_reached) {
             Ok(Some(begun)) => begun,
             other => return (1, other.map(drop)),
         };
@@ -316,7 +322,7 @@ impl<F: PageIo> Pager<F> {
             1 => Err(fault),
             // One by one, so that each that can be written out is.
             _ => {
-                let mut flush = |page| self.flush_one(page, lost);
+                let mut flush = |page| self.flush_one(page, not_reached);
                 pages.map(&mut flush).fold(Ok(()), Result::and)
             }
         });
@@ -384,8 +390,11 @@ impl<F: PageIo> Pager<F> {
     /// successful sync may be lost, and the pager counts it as saved. From then on each checkpoint
     /// is refused with [`PagerError::SyncFailedBefore`], also one that was under way: end the pager,
     /// and redo from the log.
+    ///
+    /// [`PagerError::LogLost`] where the log had failed before, though no page needs it now: the log is not to be
+    /// cut then. No page is written out.
     pub fn checkpoint(&self) -> Result<Option<u64>, PagerError> {
-        self.syncs.check()?;
+        self.check()?;
         self.flush_all(&self.unsaved()?)?;
         self.sync()
     }
@@ -396,13 +405,20 @@ impl<F: PageIo> Pager<F> {
     /// serves all calls that came before it began.
     ///
     /// # Errors
-    /// [`PagerError::Sync`] and [`PagerError::SyncFailedBefore`], as
+    /// [`PagerError::Sync`], [`PagerError::SyncFailedBefore`] and [`PagerError::LogLost`], as
     /// [`checkpoint`](Pager::checkpoint).
     pub fn sync(&self) -> Result<Option<u64>, PagerError> {
-        self.syncs.check()?;
+        self.check()?;
         // Before the sync: what goes out during it may not be kept by it.
         let redo = self.redo_from();
         self.syncs.sync(&self.io, self.number)?;
         Ok(redo)
+    }
+
+    /// # Errors
+    /// [`PagerError::SyncFailedBefore`] and [`PagerError::LogLost`].
+    fn check(&self) -> Result<(), PagerError> {
+        self.syncs.check()?;
+        self.log.check()
     }
 }

@@ -1,8 +1,8 @@
 //! Pagers over page files: pages come back, and what is not the page that was written is told.
 use crate::{Folder, Outcome};
 use hojzmated::{
-    Device, Error, FileOptions, FilePages, Layout, Log, OpenError, Pager, PagerConfig, PagerError,
-    ReadFault,
+    Device, Error, FileOptions, FilePages, Layout, Log, LogFault, OpenError, Pager, PagerConfig,
+    PagerError, ReadFault,
 };
 use std::fs::{File, read};
 use std::io::{self, ErrorKind};
@@ -23,9 +23,26 @@ const LAYOUTS: [(Layout, usize); 3] = [
 struct Noted(Mutex<Vec<u64>>);
 
 impl Log for &Noted {
-    fn make_durable(&self, lsn: u64) -> io::Result<()> {
+    fn make_durable(&self, lsn: u64) -> Result<(), LogFault> {
         self.0.lock().unwrap().push(lsn);
         Ok(())
+    }
+}
+
+/// A log whose first sync fails. Later ones go well.
+#[derive(Default)]
+struct FailsOnce(Mutex<u32>);
+
+impl Log for &FailsOnce {
+    fn make_durable(&self, _lsn: u64) -> Result<(), LogFault> {
+        let mut syncs = self.0.lock().unwrap();
+        *syncs += 1;
+        let synced = if *syncs > 1 {
+            Ok(())
+        } else {
+            Err(ErrorKind::Other)
+        };
+        Ok(synced.map_err(io::Error::from)?)
     }
 }
 
@@ -73,6 +90,29 @@ fn pages_come_back() -> Outcome {
             assert_eq!(*pager.read(page)?, [page as u8 + 1; SIZE]);
         }
     }
+    Ok(())
+}
+
+/// No page goes to the file under a record that a sync of the log has lost.
+#[test]
+fn log_that_failed_stays_failed() -> Outcome {
+    let (folder, log) = (Folder::new(), FailsOnce::default());
+    let path = folder.join("pages");
+    let pages = options(Layout::Checked).create(&path)?;
+    let before = read(&path)?;
+    let pager = Pager::new(&pages.config(4), pages.with_log(&log))?;
+    pager.write(7)?.put(0, b"forty-two", 1)?;
+    assert!(matches!(
+        pager.checkpoint(),
+        Err(PagerError::Log { lsn: 1, .. })
+    ));
+    for _ in 0..2 {
+        assert!(matches!(pager.checkpoint(), Err(PagerError::LogLost)));
+        assert!(matches!(pager.flush(7), Err(PagerError::LogLost)));
+    }
+    assert_eq!((pager.read(6)?[0], pager.stats().unsaved), (0, 1));
+    assert_eq!(read(&path)?, before);
+    assert_eq!(*log.0.lock().unwrap(), 1);
     Ok(())
 }
 

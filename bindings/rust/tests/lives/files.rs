@@ -1,7 +1,7 @@
 //! The page file and the log of the engine, and redo.
 use crate::log::{Log, Puts, sum, word};
 use crate::model::{Failure, Outcome};
-use hojzmated::{PageIo, PagerConfig, ReadFault};
+use hojzmated::{LogFault, PageIo, PagerConfig, ReadFault};
 use hojzmated_disk::DiskFile;
 use std::collections::BTreeMap;
 use std::io;
@@ -70,8 +70,8 @@ impl PageIo for Files {
         4
     }
 
-    fn make_log_durable(&self, lsn: u64) -> io::Result<()> {
-        self.log.make_durable(lsn)
+    fn make_log_durable(&self, lsn: u64) -> Result<(), LogFault> {
+        Ok(self.log.make_durable(lsn)?)
     }
 
     fn sync(&self) -> io::Result<()> {

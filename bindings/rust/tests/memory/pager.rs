@@ -1,6 +1,6 @@
 //! A pager, where memory is wanting. One thread uses it here.
 use crate::requests::{ASKED, BLOCKS, counting, refusing};
-use hojzmated::{Error, PageIo, Pager, PagerConfig, PagerError, ReadFault};
+use hojzmated::{Error, LogFault, PageIo, Pager, PagerConfig, PagerError, ReadFault};
 use std::cell::{Cell, RefCell};
 use std::io;
 use std::rc::{Rc, Weak};
@@ -19,7 +19,7 @@ impl PageIo for Memory {
         Ok(())
     }
 
-    fn make_log_durable(&self, _lsn: u64) -> io::Result<()> {
+    fn make_log_durable(&self, _lsn: u64) -> Result<(), LogFault> {
         Ok(())
     }
 
@@ -135,7 +135,7 @@ impl PageIo for Nested {
         Ok(())
     }
 
-    fn make_log_durable(&self, _lsn: u64) -> io::Result<()> {
+    fn make_log_durable(&self, _lsn: u64) -> Result<(), LogFault> {
         Ok(())
     }
 

@@ -1,6 +1,6 @@
 //! Pages that are read before anybody asks for them.
 use crate::device::{Asked, Device, Fate, Gate, PAGES, SIZE, Watch, config, fault, put};
-use hojzmated::{Error, PageIo, Pager, PagerConfig, ReadFault};
+use hojzmated::{Error, LogFault, PageIo, Pager, PagerConfig, ReadFault};
 use std::io;
 use std::panic::{AssertUnwindSafe, catch_unwind, resume_unwind};
 use std::sync::atomic::{AtomicBool, AtomicU64, Ordering};
@@ -284,7 +284,7 @@ impl PageIo for Untold {
         resume_unwind(Box::new("the engine's own code"))
     }
 
-    fn make_log_durable(&self, lsn: u64) -> io::Result<()> {
+    fn make_log_durable(&self, lsn: u64) -> Result<(), LogFault> {
         self.0.make_log_durable(lsn)
     }
 
@@ -316,7 +316,7 @@ fn many_pages_wait() {
         fn write_page(&self, _page: u64, _image: &mut [u8], _lsn: u64) -> io::Result<()> {
             Ok(())
         }
-        fn make_log_durable(&self, _lsn: u64) -> io::Result<()> {
+        fn make_log_durable(&self, _lsn: u64) -> Result<(), LogFault> {
             Ok(())
         }
         fn sync(&self) -> io::Result<()> {
@@ -373,7 +373,7 @@ impl PageIo for Rows {
         Ok(())
     }
 
-    fn make_log_durable(&self, lsn: u64) -> io::Result<()> {
+    fn make_log_durable(&self, lsn: u64) -> Result<(), LogFault> {
         self.device.make_log_durable(lsn)
     }
 

@@ -1,6 +1,6 @@
 //! Which pages are unsaved, and what is written out by age or as a list: neighbours in one write.
 use crate::device::{Asked, Device, Gate, PAGES, SIZE, Watch, config, pager, put};
-use hojzmated::{Error, PageIo, Pager, PagerError, ReadFault};
+use hojzmated::{Error, LogFault, PageIo, Pager, PagerError, ReadFault};
 use std::io;
 use std::sync::atomic::{AtomicBool, AtomicU64, Ordering};
 use std::sync::{Arc, Mutex};
@@ -63,7 +63,7 @@ impl PageIo for Rows {
         Ok(())
     }
 
-    fn make_log_durable(&self, lsn: u64) -> io::Result<()> {
+    fn make_log_durable(&self, lsn: u64) -> Result<(), LogFault> {
         self.device.make_log_durable(lsn)
     }
 
@@ -154,7 +154,7 @@ fn neighbours_by_write_page() {
         fn most_pages(&self) -> usize {
             5
         }
-        fn make_log_durable(&self, lsn: u64) -> io::Result<()> {
+        fn make_log_durable(&self, lsn: u64) -> Result<(), LogFault> {
             self.0.make_log_durable(lsn)
         }
         fn sync(&self) -> io::Result<()> {

@@ -1,5 +1,5 @@
 //! A device and a log in memory, which write down what they were asked for and end as they are told.
-use hojzmated::{PageIo, Pager, PagerConfig, ReadFault};
+use hojzmated::{LogFault, PageIo, Pager, PagerConfig, ReadFault};
 use std::panic::resume_unwind;
 use std::sync::mpsc::{RecvTimeoutError, Sender, channel};
 use std::sync::{Arc, Condvar, Mutex, MutexGuard};
@@ -26,6 +26,8 @@ pub enum Fate {
     #[default]
     Well,
     Fails,
+    /// Of the log: it does not reach so far.
+    IsNotYet,
     FindsAnother,
     Panics,
 }
@@ -35,6 +37,11 @@ type Work = Arc<dyn Fn(Asked) -> Result<(), ReadFault> + Send + Sync>;
 /// The fault of a request.
 pub fn fault() -> ReadFault {
     io::Error::other("no such luck").into()
+}
+
+/// The fault of a log that does not reach so far yet.
+pub fn not_yet() -> ReadFault {
+    io::Error::from(io::ErrorKind::WouldBlock).into()
 }
 
 /// Pages of 16 bytes and a log. A request is written down, then the work is done that the test has
@@ -78,9 +85,17 @@ impl Device {
         match fate {
             Fate::Well => Ok(()),
             Fate::Fails => Err(fault()),
+            Fate::IsNotYet => Err(not_yet()),
             Fate::FindsAnother => Err(ReadFault::WrongPage),
             Fate::Panics => resume_unwind(Box::new("the engine's own code")),
         }
+    }
+}
+
+fn log_fault(fault: ReadFault) -> LogFault {
+    match device_fault(fault) {
+        error if error.kind() == io::ErrorKind::WouldBlock => LogFault::NotYet,
+        error => LogFault::Lost(error),
     }
 }
 
@@ -105,8 +120,8 @@ impl PageIo for Device {
         Ok(())
     }
 
-    fn make_log_durable(&self, lsn: u64) -> io::Result<()> {
-        self.note(Asked::Log(lsn)).map_err(device_fault)
+    fn make_log_durable(&self, lsn: u64) -> Result<(), LogFault> {
+        self.note(Asked::Log(lsn)).map_err(log_fault)
     }
 
     fn sync(&self) -> io::Result<()> {

@@ -1,6 +1,6 @@
 //! Changes in place, and puts of bytes that are those of the pool or not.
 use crate::device::{Asked, Device, SIZE, config, pager};
-use hojzmated::{Error, Pager};
+use hojzmated::{Error, LogFault, Pager};
 use std::cell::RefCell;
 use std::panic::{AssertUnwindSafe, catch_unwind};
 use std::sync::Arc;
@@ -25,7 +25,7 @@ impl hojzmated::PageIo for Whole {
         Ok(())
     }
 
-    fn make_log_durable(&self, _lsn: u64) -> std::io::Result<()> {
+    fn make_log_durable(&self, _lsn: u64) -> Result<(), LogFault> {
         Ok(())
     }
 

@@ -76,7 +76,7 @@ fn unless_pinned<T>(told: Result<Option<T>, PagerError>) -> Result<Option<T>, Pa
 /// Whether a call came to this by a fault of the device.
 fn is_of_device(error: &PagerError) -> bool {
     match error {
-        PagerError::WrongPage { .. } => true,
+        PagerError::WrongPage { .. } | PagerError::LogNotYet { .. } => true,
         _ => std::error::Error::source(error).is_some_and(|it| it.to_string() == "no such luck"),
     }
 }
@@ -241,7 +241,7 @@ impl Engine {
                 let lsn = self.pager.io().end_of_log();
                 let synced = self.pager.io().sync_log();
                 self.pager
-                    .mark(synced.map_err(|source| PagerError::Log { lsn, source })?);
+                    .mark(synced.map_err(|_| PagerError::LogNotYet { lsn })?);
             }
             _ => {}
         }

@@ -1,6 +1,6 @@
 //! What a pager does with the engine's device, of whatever type, and what goes out.
 use crate::device::{Asked, Device, PAGES, SIZE, config, pager, put};
-use hojzmated::{PageIo, Pager, ReadFault};
+use hojzmated::{LogFault, PageIo, Pager, ReadFault};
 use std::io;
 use std::sync::Arc;
 
@@ -17,7 +17,7 @@ impl PageIo for Stamping {
         self.0.write_page(page, image, lsn)
     }
 
-    fn make_log_durable(&self, lsn: u64) -> io::Result<()> {
+    fn make_log_durable(&self, lsn: u64) -> Result<(), LogFault> {
         self.0.make_log_durable(lsn)
     }
 

@@ -1,5 +1,5 @@
 //! A device and a log that are slow, fail and panic at random, and look at all that they are given.
-use hojzmated::{PageIo, ReadFault};
+use hojzmated::{LogFault, PageIo, ReadFault};
 use std::ops::Range;
 use std::panic::resume_unwind;
 use std::sync::atomic::{AtomicBool, AtomicU64, Ordering};
@@ -170,10 +170,11 @@ impl Device {
     }
 
     /// Makes all of the log durable, for the pager or for the engine, and tells its end.
-    pub fn sync_log(&self) -> io::Result<u64> {
+    /// It fails so that nothing is lost.
+    pub fn sync_log(&self) -> Result<u64, LogFault> {
         let _turn = self.log_turn.lock().unwrap_or_else(PoisonError::into_inner);
         let end = self.end_of_log();
-        self.write_or_fail(OF_LOG)?;
+        self.work(OF_LOG, 1).map_err(|_| LogFault::NotYet)?;
         self.durable.fetch_max(end, Ordering::AcqRel);
         Ok(end)
     }
@@ -224,7 +225,7 @@ impl PageIo for Device {
         Ok(())
     }
 
-    fn make_log_durable(&self, lsn: u64) -> io::Result<()> {
+    fn make_log_durable(&self, lsn: u64) -> Result<(), LogFault> {
         let _alone = Alone::at(&self.is_at_log);
         let end = self.end_of_log();
         assert!(lsn <= end, "no log record has LSN {lsn}");

@@ -1,5 +1,5 @@
 //! Beside a log that is slow or fails: which latches are held meanwhile, and which calls fail.
-use crate::device::{Asked, Device, Fate, Gate, Watch, config, fault, pager, put};
+use crate::device::{Asked, Device, Fate, Gate, Watch, config, fault, not_yet, pager, put};
 use hojzmated::{Pager, PagerError};
 use std::panic::{AssertUnwindSafe, catch_unwind, resume_unwind};
 use std::sync::Arc;
@@ -117,7 +117,7 @@ fn latch_in_the_last_round() {
 fn victim_alone_is_passed_over() {
     let pager = pager(4);
     pager.io().ends_as(|asked| match asked {
-        Asked::Log(_) => Err(fault()),
+        Asked::Log(_) => Err(not_yet()),
         _ => Ok(()),
     });
     put(&pager, 9, 1, 7);
@@ -161,7 +161,7 @@ fn victim_is_passed_over_without_a_buffer() {
     pager.io().ends_as(move |asked| match asked {
         Asked::Log(_) => {
             log.pass();
-            Err(fault())
+            Err(not_yet())
         }
         Asked::Write(8, ..) => {
             page.pass();
@@ -196,7 +196,7 @@ fn log_that_cannot_be_had_so_far() {
                 if times.fetch_add(1, Ordering::Relaxed) == 0 {
                     device.pass();
                 }
-                if lsn < 1_000 { Ok(()) } else { Err(fault()) }
+                if lsn < 1_000 { Ok(()) } else { Err(not_yet()) }
             }
             _ => Ok(()),
         });
@@ -213,7 +213,7 @@ fn log_that_cannot_be_had_so_far() {
             let [second, third] = others.map(|it| it.join().unwrap());
             second.unwrap();
             let told = third.unwrap_err();
-            assert!(matches!(told, PagerError::Log { lsn: 1_000, .. }));
+            assert!(matches!(told, PagerError::LogNotYet { lsn: 1_000 }));
         });
     }
 }
@@ -227,7 +227,8 @@ fn checkpoint_goes_on_after_a_page() {
     (0..12).for_each(|page| put(&pager, page, 1, page + 1));
     put(&pager, 7, 1, 1_000);
     pager.io().ends_as(|asked| match asked {
-        Asked::Log(1_000..) | Asked::Write(2, ..) => Err(fault()),
+        Asked::Log(1_000..) => Err(not_yet()),
+        Asked::Write(2, ..) => Err(fault()),
         _ => Ok(()),
     });
     for _ in 0..2 {
@@ -237,7 +238,7 @@ fn checkpoint_goes_on_after_a_page() {
     assert!(!pager.io().asked().contains(&Asked::Sync));
     // It tells what failed first: the log, and then the page.
     let told = pager.checkpoint().unwrap_err();
-    assert!(matches!(told, PagerError::Log { lsn: 1_000, .. }));
+    assert!(matches!(told, PagerError::LogNotYet { lsn: 1_000 }));
     pager.mark(1_000);
     let told = pager.checkpoint().unwrap_err();
     assert!(matches!(told, PagerError::Write { page: 2, .. }));

@@ -13,6 +13,7 @@ mod frames;
 mod kept;
 mod latches;
 mod log;
+mod lost;
 mod natural;
 mod nested;
 mod others;

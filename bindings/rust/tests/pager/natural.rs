@@ -2,7 +2,7 @@
 //! of the pages, and others flush meanwhile.
 use crate::device::Watch;
 use crate::faulty::Numbers;
-use hojzmated::{PageIo, Pager, PagerConfig, ReadFault};
+use hojzmated::{LogFault, PageIo, Pager, PagerConfig, ReadFault};
 use std::sync::Mutex;
 use std::sync::atomic::{AtomicU64, Ordering};
 use std::time::{Duration, Instant};
@@ -51,7 +51,7 @@ impl PageIo for Files {
         Ok(())
     }
 
-    fn make_log_durable(&self, _lsn: u64) -> io::Result<()> {
+    fn make_log_durable(&self, _lsn: u64) -> Result<(), LogFault> {
         self.sync_log();
         Ok(())
     }

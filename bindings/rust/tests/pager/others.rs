@@ -1,5 +1,5 @@
 //! What one page, one thread or one fault does to others: they get through.
-use hojzmated::{Error, PageIo, Pager, PagerConfig, PagerError, ReadFault};
+use hojzmated::{Error, LogFault, PageIo, Pager, PagerConfig, PagerError, ReadFault};
 use std::io;
 use std::panic::{AssertUnwindSafe, catch_unwind};
 use std::sync::atomic::{AtomicBool, Ordering};
@@ -49,10 +49,13 @@ impl PageIo for Device {
         is_so(self.bad_page != Some(page))
     }
 
-    fn make_log_durable(&self, lsn: u64) -> io::Result<()> {
+    fn make_log_durable(&self, lsn: u64) -> Result<(), LogFault> {
         self.wanted.lock().unwrap().push(lsn);
         thread::sleep(self.log_takes);
-        is_so(self.log_end.is_none_or(|end| lsn <= end))
+        match self.log_end {
+            Some(end) if lsn > end => Err(LogFault::NotYet),
+            _ => Ok(()),
+        }
     }
 
     fn sync(&self) -> io::Result<()> {
@@ -195,7 +198,7 @@ fn log_record_that_never_comes() {
     put(&pager, 0, 1_000);
     put(&pager, 1, 50);
     let refused = pager.flush(0).unwrap_err();
-    assert!(matches!(refused, PagerError::Log { lsn: 1_000, .. }));
+    assert!(matches!(refused, PagerError::LogNotYet { lsn: 1_000 }));
     pager.flush(1).unwrap();
     assert_eq!(*pager.io().wanted.lock().unwrap(), [1_000, 50]);
 }

@@ -56,21 +56,28 @@ fn panic_of_a_page_that_makes_way() {
     assert_eq!(pager.io().asked(), [Asked::Write(1, 9, 5), Asked::Read(2)]);
 }
 
-// By whichever call, here and in another thread. The next one makes the log durable.
+// By whichever call, here or in another thread: a sync that failed may be behind it. So the log is lost, as one that
+// tells so.
 #[test]
 fn panic_of_the_log() {
-    let pager = with_an_unsaved_page(1);
-    panics(&pager, || pager.flush(1));
-    panics(&pager, || pager.read(2));
-    panics(&pager, || pager.checkpoint());
-    thread::scope(|threads| {
-        pager.io().is_next(Fate::Panics);
-        assert!(threads.spawn(|| pager.flush(1)).join().is_err());
-    });
-    assert_eq!(pager.io().asked(), [Asked::Log(5); 4]);
-    assert_eq!(pager.read(1).unwrap()[0], 9);
-    pager.flush(1).unwrap();
-    assert_eq!(pager.io().asked(), [Asked::Log(5), Asked::Write(1, 9, 5)]);
+    let calls: [fn(&Pager<Device>); 4] = [
+        |it| panics(it, || it.flush(1)),
+        |it| panics(it, || it.read(2)),
+        |it| panics(it, || it.checkpoint()),
+        |it| {
+            it.io().is_next(Fate::Panics);
+            thread::scope(|threads| assert!(threads.spawn(|| it.flush(1)).join().is_err()));
+        },
+    ];
+    for call in calls {
+        let pager = with_an_unsaved_page(1);
+        call(&pager);
+        assert_eq!(pager.read(1).unwrap()[0], 9);
+        let told = pager.flush(1).unwrap_err();
+        assert!(matches!(told, PagerError::LogLost));
+        assert_eq!(pager.io().asked(), [Asked::Log(5)]);
+        assert_eq!((pager.stats().unsaved, pager.stats().pinned), (1, 0));
+    }
 }
 
 // What the sync had to keep may be lost. So no later checkpoint goes well, but pages go out.

@@ -209,7 +209,7 @@ fn failed_write_out() {
 }
 
 #[test]
-fn failed_log() {
+fn log_that_ends_early() {
     let pager = with_an_unsaved_page(1);
     let calls: [Call; 3] = [
         |it| it.read(2).map(drop),
@@ -217,16 +217,16 @@ fn failed_log() {
         |it| it.flush(1),
     ];
     for call in calls {
-        pager.io().is_next(Fate::Fails);
+        pager.io().is_next(Fate::IsNotYet);
         let error = call(&pager).unwrap_err();
-        assert!(matches!(error, PagerError::Log { lsn: 5, .. }));
+        assert!(matches!(error, PagerError::LogNotYet { lsn: 5 }));
         assert_eq!(pager.io().asked(), [Asked::Log(5)]);
         assert_eq!(pager.read(1).unwrap()[0], 9);
     }
     // A checkpoint asks for all pages at once, and no more for a page that needs all of that.
-    pager.io().is_next(Fate::Fails);
+    pager.io().is_next(Fate::IsNotYet);
     let error = pager.checkpoint().unwrap_err();
-    assert!(matches!(error, PagerError::Log { lsn: 5, .. }));
+    assert!(matches!(error, PagerError::LogNotYet { lsn: 5 }));
     assert_eq!(pager.io().asked(), [Asked::Log(5)]);
     assert_eq!(pager.checkpoint().unwrap(), None);
     let asked = [Asked::Log(5), Asked::Write(1, 9, 5), Asked::Sync];

@@ -1,7 +1,7 @@
 //! How long pages that are away are remembered, without a purge by the engine, and what that does to a
 //! scan.
 use crate::device::{Device, Fate, config};
-use hojzmated::{PageIo, Pager, PagerConfig, ReadFault, core};
+use hojzmated::{LogFault, PageIo, Pager, PagerConfig, ReadFault, core};
 use std::io;
 use std::sync::atomic::{AtomicU64, Ordering};
 
@@ -30,7 +30,7 @@ impl PageIo for Zeros {
         Ok(())
     }
 
-    fn make_log_durable(&self, _lsn: u64) -> io::Result<()> {
+    fn make_log_durable(&self, _lsn: u64) -> Result<(), LogFault> {
         Ok(())
     }
 

@@ -225,7 +225,7 @@ fn flush_waits_for_the_log() {
         (Do::Look(1), asks([Asked::Read(1)])),
         (Do::Flush(1), asks([])),
         (Do::Put(1, 5, 3), asks([])),
-        (Do::Next(Fate::Fails), asks([])),
+        (Do::Next(Fate::IsNotYet), asks([])),
         (Do::Flush(1), refused(needs_log, [Asked::Log(3)])),
         (Do::Mark(3), asks([])),
         (Do::Flush(1), asks([Asked::Write(1, 5, 3)])),
@@ -242,7 +242,7 @@ fn mark_never_falls() {
     let rows = [
         (Do::Put(1, 255, 7), asks([Asked::Read(1)])),
         (Do::Mark(5), asks([])),
-        (Do::Next(Fate::Fails), asks([])),
+        (Do::Next(Fate::IsNotYet), asks([])),
         (Do::Look(2), refused(needs_log, [Asked::Log(7)])),
         (Do::Mark(7), asks([])),
         (Do::Mark(6), asks([])),
@@ -252,7 +252,7 @@ fn mark_never_falls() {
 }
 
 // Of two frames, with two stamps. Page 2 has references of times 1 and 2, and page 1 one of time 3. So
-// page 1 has to make way at 4, but its log record cannot be made durable: it counts as used then, and
+// page 1 has to make way at 4, but the log does not reach its record yet: it counts as used then, and
 // page 2 makes way. At 5 page 3 leaves for page 2, which can't be read, and is at 6. At 7 page 2 leaves,
 // since its second reference is of time 2, and that of page 1 is of time 3.
 #[test]
@@ -261,7 +261,7 @@ fn reckoned_trail() {
         (Do::Look(2), asks([Asked::Read(2)])),
         (Do::Look(2), asks([])),
         (Do::Put(1, 7, 5), asks([Asked::Read(1)])),
-        (Do::Next(Fate::Fails), asks([])),
+        (Do::Next(Fate::IsNotYet), asks([])),
         (Do::Look(3), asks([Asked::Log(5), Asked::Read(3)])),
         (Do::Frames, pages([1, 3])),
         (Do::Mark(5), asks([])),

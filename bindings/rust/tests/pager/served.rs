@@ -1,5 +1,5 @@
 //! Write-outs and syncs that serve all calls which came before they began.
-use crate::device::{Asked, Device, Watch, config, fault, pager, put};
+use crate::device::{Asked, Device, Watch, config, fault, not_yet, pager, put};
 use hojzmated::{Pager, PagerError};
 use std::sync::atomic::{AtomicUsize, Ordering};
 use std::sync::{Arc, Condvar, Mutex};
@@ -286,13 +286,13 @@ fn failed_sync_that_serves_many() {
     assert_eq!(count_of(&pager, is_sync), 2);
 }
 
-// A checkpoint of twelve pages whose log fails asks it for all of them, and for the least: not for each.
+// A checkpoint of twelve pages whose log ends before them asks it for all of them, and for the least: not for each.
 #[test]
-fn log_that_fails_is_not_asked_for_each_page() {
+fn log_that_ends_early_is_not_asked_for_each_page() {
     let pager = Pager::new(&config(16), Device::default()).unwrap();
     (0..12).for_each(|page| put(&pager, page, 1, 20 - page));
     pager.io().ends_as(|asked| match asked {
-        Asked::Log(_) => Err(fault()),
+        Asked::Log(_) => Err(not_yet()),
         _ => Ok(()),
     });
     pager.io().asked();
@@ -303,7 +303,7 @@ fn log_that_fails_is_not_asked_for_each_page() {
     ];
     for call in calls {
         let told = call(&pager).unwrap_err();
-        assert!(matches!(told, PagerError::Log { lsn: 20, .. }));
+        assert!(matches!(told, PagerError::LogNotYet { lsn: 20 }));
         assert_eq!(pager.io().asked(), [Asked::Log(20), Asked::Log(9)]);
     }
     // What is durable goes out all the same.

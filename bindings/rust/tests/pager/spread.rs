@@ -1,6 +1,6 @@
 //! How the pages of a file are spread over the parts.
 use crate::device::{Asked, Device, PAGES, config, put};
-use hojzmated::{PageIo, Pager, PagerConfig, ReadFault};
+use hojzmated::{LogFault, PageIo, Pager, PagerConfig, ReadFault};
 use std::io;
 use std::sync::atomic::{AtomicU64, Ordering};
 use std::time::Duration;
@@ -20,7 +20,7 @@ impl PageIo for Reads {
         Ok(())
     }
 
-    fn make_log_durable(&self, _lsn: u64) -> io::Result<()> {
+    fn make_log_durable(&self, _lsn: u64) -> Result<(), LogFault> {
         Ok(())
     }
 

@@ -1,5 +1,5 @@
 //! Calls that have nothing to wait for but what is under way: they end with it.
-use hojzmated::{PageIo, Pager, PagerConfig, ReadFault};
+use hojzmated::{LogFault, PageIo, Pager, PagerConfig, ReadFault};
 use std::sync::{Arc, Barrier, Mutex};
 use std::time::{Duration, Instant};
 use std::{io, thread};
@@ -32,8 +32,8 @@ impl PageIo for Calling {
         self.call('w', page)
     }
 
-    fn make_log_durable(&self, lsn: u64) -> io::Result<()> {
-        self.call('l', lsn)
+    fn make_log_durable(&self, lsn: u64) -> Result<(), LogFault> {
+        Ok(self.call('l', lsn)?)
     }
 
     fn sync(&self) -> io::Result<()> {

@@ -1,6 +1,6 @@
 //! Pages that cannot be written out, or whose log record cannot be made durable: others make way in
 //! their place, and a call is refused only where no page can.
-use crate::device::{Asked, Device, Gate, PAGES, Watch, config, fault, pager, put};
+use crate::device::{Asked, Device, Gate, PAGES, Watch, config, fault, not_yet, pager, put};
 use hojzmated::{Pager, PagerConfig, PagerError, ReadFault};
 use std::panic::{AssertUnwindSafe, catch_unwind, resume_unwind};
 use std::sync::atomic::{AtomicBool, Ordering};
@@ -212,12 +212,12 @@ fn panic_after_a_page_was_set_aside() {
 }
 
 /// Pages 9 and 1 are unsaved under these LSNs, and page 9 is first to make way; two frames more have
-/// clean pages, and the log can't be made durable. Reads eleven other pages, and returns how often the
+/// clean pages, and the log does not reach so far. Reads eleven other pages, and returns how often the
 /// log was asked within each.
 fn asks_of_the_log(lsns: [u64; 2], pins_the_other: bool) -> Vec<usize> {
     let pager = pager(4);
     pager.io().ends_as(|asked| match asked {
-        Asked::Log(_) => Err(fault()),
+        Asked::Log(_) => Err(not_yet()),
         _ => Ok(()),
     });
     put(&pager, 9, 1, lsns[0]);
@@ -237,7 +237,7 @@ fn asks_of_the_log(lsns: [u64; 2], pins_the_other: bool) -> Vec<usize> {
 }
 
 // A page whose record is not durable is passed over, whether its record is of another page too or not.
-// Where the log failed, the same call does not ask it again for a later record, or the same one.
+// Where the log did not reach so far, the same call does not ask it again for a later record, or the same one.
 #[test]
 fn records_that_are_not_durable() {
     for lsns in [[7, 8], [7, 7]] {
@@ -255,7 +255,7 @@ fn records_that_are_not_durable() {
 fn refused_where_no_record_is_durable() {
     let pager = pager(2);
     pager.io().ends_as(|asked| match asked {
-        Asked::Log(_) => Err(fault()),
+        Asked::Log(_) => Err(not_yet()),
         _ => Ok(()),
     });
     put(&pager, 1, 1, 8);
@@ -265,7 +265,7 @@ fn refused_where_no_record_is_durable() {
         let told = pager.read(page).map(drop).unwrap_err();
         let asked = pager.io().asked();
         assert!(
-            matches!(told, PagerError::Log { lsn, .. } if asked.first() == Some(&Asked::Log(lsn)))
+            matches!(told, PagerError::LogNotYet { lsn } if asked.first() == Some(&Asked::Log(lsn)))
         );
     }
     pager.mark(8);

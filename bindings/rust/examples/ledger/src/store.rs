@@ -6,7 +6,7 @@ use crate::record::Change;
 use crate::space::Space;
 use crate::tree::ROOT;
 use crate::{Error, Result, bad};
-use hojzmated::{Cleaner, PageIo, Pager, PagerConfig, PagerError, ReadFault, Stats};
+use hojzmated::{Cleaner, LogFault, PageIo, Pager, PagerConfig, PagerError, ReadFault, Stats};
 use std::collections::{BTreeMap, BTreeSet};
 use std::hash::{BuildHasher, RandomState};
 use std::io;
@@ -40,8 +40,8 @@ impl PageIo for Files {
         self.pages.write_all_at(image, page * image.len() as u64)
     }
 
-    fn make_log_durable(&self, lsn: u64) -> io::Result<()> {
-        self.log.make_durable(lsn)
+    fn make_log_durable(&self, lsn: u64) -> Result<(), LogFault> {
+        Ok(self.log.make_durable(lsn)?)
     }
 
     fn sync(&self) -> io::Result<()> {
