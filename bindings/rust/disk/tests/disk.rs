@@ -326,25 +326,32 @@ fn a_pager_over_it_keeps_what_a_checkpoint_wrote() {
     assert_eq!(kept, BTreeSet::from([1, 2]));
 }
 
-// A pager asks for the log again after a failure: no page goes out under a record that a sync has lost.
+// The next sync of the log goes well, and the pager knows: no page goes out under a record that a sync has lost.
 #[test]
 fn a_log_whose_sync_failed_is_never_durable() {
     let disk = Disk::new(3);
+    let config = PagerConfig::new(16, 512, 4);
     let files = disk.pages("pages", "log");
     files.pages.set_len(16 * 512).unwrap();
     files.log.write_all_at(&[5; 8], 0).unwrap();
-    let pager = Pager::new(&PagerConfig::new(16, 512, 4), files).unwrap();
+    let pager = Pager::new(&config, files).unwrap();
     pager.write(3).unwrap().put(0, &[1], 5).unwrap();
     disk.set_fault(Some(Fault::Sync(1)));
+    let flushed = pager.flush(3);
+    assert!(
+        matches!(flushed, Err(PagerError::Log { lsn: 5, .. })),
+        "{flushed:?}"
+    );
+    pager.io().log.sync_data().unwrap();
     for _ in 0..3 {
         let flushed = pager.flush(3);
-        assert!(
-            matches!(flushed, Err(PagerError::Log { lsn: 5, .. })),
-            "{flushed:?}"
-        );
+        assert!(matches!(flushed, Err(PagerError::LogLost)), "{flushed:?}");
         assert_eq!(pager.stats().unsaved, 1);
     }
-    // The next process finds out by itself what the log has.
+    assert_eq!(bytes(&disk.file("pages"))[3 * 512], 0);
+    // The next process has a pager of its own, and finds out by itself what the log has.
     disk.restart();
+    let pager = Pager::new(&config, pager.into_io()).unwrap();
+    pager.write(3).unwrap().put(0, &[1], 5).unwrap();
     pager.flush(3).unwrap();
 }
