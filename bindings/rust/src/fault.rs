@@ -132,8 +132,8 @@ pub enum PagerError {
         /// The LSN up to which it must be durable.
         lsn: u64,
     },
-    /// The log failed in an earlier call, or panicked. What was appended since it was durable last may be lost, though a
-    /// later sync goes well: end the pager, and redo from the log.
+    /// The log failed in an earlier call, or panicked. What was appended since it was durable last may be lost,
+    /// though a later sync goes well: end the pager, and redo from the log.
     LogLost,
     /// The device could not be synced.
     Sync {

@@ -78,8 +78,8 @@ pub trait Log {
     /// a page.
     ///
     /// # Errors
-    /// [`LogFault::Lost`] where the log failed, as by `?` for an [`io::Error`]: the pager asks no more, and refuses each
-    /// later call that needs the log. [`LogFault::NotYet`] where the log ends before this LSN.
+    /// [`LogFault::Lost`] where the log failed, as by `?` for an [`io::Error`]: the pager asks no more, and
+    /// refuses each later call that needs the log. [`LogFault::NotYet`] where the log ends before this LSN.
     fn make_durable(&self, lsn: u64) -> Result<(), LogFault>;
 }
 

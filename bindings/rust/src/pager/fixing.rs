@@ -144,7 +144,7 @@ use std::sync::atomic::{AtomicU64, AtomicUsize, Ordering};
 /// [`PagerConfig::tells_each_pin`].
 ///
 /// # Where a call fails
-/// Nothing is lost where the device or the log fails or panics: the page that was to be read is in
+/// No page is lost where the device or the log fails or panics: the one that was to be read is in
 /// no frame, and the one that was to be written out is unsaved. Where a read fails, the threads that
 /// waited for the page as that read began have a fault of the same kind, text and number; who comes later has
 /// the page read anew.
@@ -155,11 +155,11 @@ use std::sync::atomic::{AtomicU64, AtomicUsize, Ordering};
 /// pages are pinned it waits for them before, for 5 milliseconds at most: so long no other call tries the pages
 /// that it keeps. It does not ask the log again for what that does not reach yet.
 ///
-/// A log that [failed](crate::LogFault::Lost) or panicked is not asked again, by no call, and
-/// [`mark`](Pager::mark) tells nothing more: a later sync that goes well says nothing of what an earlier one has lost. So no
-/// page goes out under a record that is lost. Each call that needs such a record, each checkpoint and each sync is
-/// refused with [`PagerError::LogLost`], for as long as the pager is there. Pages can be read as long as others can
-/// make way, and those whose records were durable before go out.
+/// A log that [failed](crate::LogFault::Lost) or panicked is asked by no call any more, and [`mark`](Pager::mark)
+/// changes nothing: a later sync that goes well says nothing of what an earlier one has lost. So no page goes out
+/// under a record that is lost. Each call that needs such a record, each checkpoint and each sync is refused with
+/// [`PagerError::LogLost`], for as long as the pager is there. Pages can be read as long as others can make way,
+/// and those whose records were durable before go out.
 ///
 /// Where the device or the log panics, so does the call. A later one chooses another victim: the next one,
 /// or with a correlated period of 0 one after up to K such calls. Where the pager is dropped, pages that

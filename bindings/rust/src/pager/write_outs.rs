@@ -243,7 +243,8 @@ impl<F: PageIo> Pager<F> {
     /// Writes out those of these pages that are unsaved, in the order of the file, as
     /// [`flush`](Pager::flush) does. It makes the log durable once for all of them. If the log does not reach
     /// so far yet, it asks once more for the page of the least LSN, and then for no record that is as late as
-    /// one which it did not reach. Of a log that failed it asks nothing more. Several threads may do so at once, each with a share of the pages.
+    /// one which it did not reach. A log that failed it asks no more. Several threads may do so at once, each
+    /// with a share of the pages.
     ///
     /// Pages side by side go out by one call of [`PageIo::write_pages`], up to
     /// [`PageIo::most_pages`] and 256 pages and 1 MiB: but a page whose record is not durable, that a
