@@ -10,7 +10,7 @@ use Rattle.bp_words.specs.Waiters.{readers_of, writers_of, all_of, IsLetIn, IsDu
 use Rattle.bp_words.specs.Waiters.Enters.{last_writer, first_readers, second_readers}
 use Rattle.bp_words.specs.Waiters.HandsOver.{nobody_waits, lets_readers_in, readers_wait_on, lets_writer_in, writer_waits_on, wakes_writer}
 use Rattle.bp_words.specs.Waiters.Looks.{sleeps_on, is_behind, takes, finds_it_taken}
-use Rattle.bp_words.specs.Latch.{Latch, IsAwaited, Step, Way, Heard}
+use Rattle.bp_words.specs.Latch.{Latch, latch_of, IsAwaited, Step, Way, Heard}
 use Rattle.bp_words.specs.Latch.Step.{comes, leaves, enters, hands_over, looks}
 use Rattle.bp_words.specs.Latch.Way.{here, on}
 use Rattle.bp_words.proofs.Steps.{not_yes, some_is}
@@ -18,12 +18,9 @@ use Rattle.bp_words.proofs.Steps.{not_yes, some_is}
 not_no : true ≡ false → ⊥
 not_no e = not_yes (sym e)
 
-abbrev at : Waiters → Fields → ℕ → Latch
-at q f calls = record { waiters = q; word = f; calls = calls }
-
 -- A latch is what it has.
-heard_at : (m : Latch) (q : Waiters) (f : Fields) → m.waiters ≡ q → m.word ≡ f → Heard (at q f m.calls) → Heard m
-heard_at m q f eq ef h = subst (λ (x : Waiters × Fields). Heard (at x.0 x.1 m.calls)) (λ i. (sym eq i, sym ef i)) h
+heard_at : (m : Latch) (q : Waiters) (f : Fields) → m.waiters ≡ q → m.word ≡ f → Heard (latch_of q f m.calls) → Heard m
+heard_at m q f eq ef h = subst (λ (x : Waiters × Fields). Heard (latch_of x.0 x.1 m.calls)) (λ i. (sym eq i, sym ef i)) h
 
 -- The first: nobody waits.
 pub heard_first : (l : Latch) → all_of l.waiters ≡ 0 → l.waiters.is_awake ≡ false → l.waiters.let_in ≤ l.waiters.writers → l.word.queued ≡ 0 → l.word.closed ≡ 0 → Heard l
@@ -39,7 +36,7 @@ heard_first l none asleep order queued closed = record {
 
 -- Nobody waits in another way, and the flags of the word are the same.
 same_queue : (l : Latch) (f : Fields) (calls : ℕ) → Heard l → f.queued ≡ l.word.queued → f.closed ≡ l.word.closed
-    → (0 < all_of l.waiters → (0 < f.readers + f.writers + calls) ⊎ ((l.waiters.is_awake ≡ true) × (l.waiters.first ≡ 0))) → Heard (at l.waiters f calls)
+    → (0 < all_of l.waiters → (0 < f.readers + f.writers + calls) ⊎ ((l.waiters.is_awake ≡ true) × (l.waiters.first ≡ 0))) → Heard (latch_of l.waiters f calls)
 same_queue l f calls h queued closed heard = record {
   told = queued ∙ h.told;
   free = λ none. closed ∙ h.free none;
@@ -51,7 +48,7 @@ same_queue l f calls h queued closed heard = record {
 }
 
 heard_comes : (l m : Latch) → Heard l → m.calls ≡ l.calls → m.word.queued ≡ l.word.queued → m.word.closed ≡ l.word.closed → l.word.readers ≤ m.word.readers
-    → (m.word.writers ≡ l.word.writers) ⊎ ((m.word.writers ≡ 1) × (l.word.closed ≡ 0)) → Heard (at l.waiters m.word m.calls)
+    → (m.word.writers ≡ l.word.writers) ⊎ ((m.word.writers ≡ 1) × (l.word.closed ≡ 0)) → Heard (latch_of l.waiters m.word m.calls)
 heard_comes l m h calls queued closed more writers = same_queue l m.word m.calls h queued closed (λ some. ⊎_elim
     (λ (has : 0 < l.word.readers + l.word.writers + l.calls). ⊎_elim
     (λ (same : m.word.writers ≡ l.word.writers). inl (omega arith))
@@ -61,7 +58,7 @@ heard_comes l m h calls queued closed more writers = same_queue l m.word m.calls
     (h.heard some))
 
 heard_leaves : (l m : Latch) → Heard l → m.word.queued ≡ l.word.queued → m.word.closed ≡ l.word.closed
-    → (IsAwaited m.word → m.calls ≡ l.calls + 1) → (¬ (IsAwaited m.word) → m.calls ≡ l.calls) → Heard (at l.waiters m.word m.calls)
+    → (IsAwaited m.word → m.calls ≡ l.calls + 1) → (¬ (IsAwaited m.word) → m.calls ≡ l.calls) → Heard (latch_of l.waiters m.word m.calls)
 heard_leaves l m h queued closed awaited not = same_queue l m.word m.calls h queued closed (λ some. dite (ℕ_discrete (m.word.readers + m.word.writers) 0)
     (λ gone. let calls = awaited (queued ∙ h.told ∙ some_is _ some, λ latched. absurd (omega arith)) in inl (omega arith))
     (λ has. inl (omega arith)))
@@ -123,7 +120,7 @@ heard_enters now latch place l m h taken calls (second_readers is unwritten then
 
 -- The first writer is let in.
 heard_writer_in : (now : ℕ) (l : Latch) (calls : ℕ) → Heard l → l.waiters.let_in < l.waiters.writers
-    → Heard (at (without_writer now l.waiters) (told (without_writer now l.waiters) (record l.word { writers = 1 })) calls)
+    → Heard (latch_of (without_writer now l.waiters) (told (without_writer now l.waiters) (record l.word { writers = 1 })) calls)
 heard_writer_in now l calls h some_writer = record {
   told = refl;
   free = λ none. ap some_of none;
@@ -228,3 +225,19 @@ heard_step now l m (looks ticket mine calls how) h = heard_looks now ticket l m 
 pub heard_way : (from : ℕ) (l m : Latch) → Way from l m → Heard l → Heard m
 heard_way from l _ here h = h
 heard_way from l _ (on m n now late way step) h = heard_step now m n step (heard_way from l m way h)
+
+-- ---- The changes of the word
+
+pub reads_step : (now : ℕ) (q : Waiters) (f : Fields) (calls pins joins : ℕ) → Step now (latch_of q f calls) (latch_of q (record f { readers = f.readers + 1; pins = pins; joins = joins }) calls)
+reads_step now q f calls pins joins = comes refl refl refl refl (omega arith) (inl refl)
+
+pub writes_step : (now : ℕ) (q : Waiters) (f : Fields) (calls pins joins : ℕ) → IsFree 1099511627776 f → Step now (latch_of q f calls) (latch_of q (record f { writers = 1; pins = pins; joins = joins }) calls)
+writes_step now q f calls pins joins free = comes refl refl refl refl (omega arith) (inr (refl, free.1))
+
+pub pins_step : (now : ℕ) (q : Waiters) (f : Fields) (calls pins out stays joins : ℕ) → Step now (latch_of q f calls) (latch_of q (record f { pins = pins; out = out; stays = stays; joins = joins }) calls)
+pins_step now q f calls pins out stays joins = comes refl refl refl refl (omega arith) (inl refl)
+
+pub leaves_step : (now : ℕ) (q : Waiters) (f : Fields) (calls readers writers pins : ℕ) → readers ≤ f.readers → writers ≤ f.writers
+    → let left = record f { readers = readers; writers = writers; pins = pins } in (IsAwaited left → Step now (latch_of q f calls) (latch_of q left (calls + 1))) × (¬ (IsAwaited left) → Step now (latch_of q f calls) (latch_of q left calls))
+leaves_step now q f calls readers writers pins less fewer =
+    ((λ awaited. leaves refl refl refl less fewer (λ _. refl) (λ not. absurd (not awaited))), (λ not. leaves refl refl refl less fewer (λ awaited. absurd (not awaited)) (λ _. refl)))

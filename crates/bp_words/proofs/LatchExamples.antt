@@ -8,7 +8,7 @@ use Rattle.bp_words.specs.Waiters.{readers_of, writers_of, IsLetIn, IsDue, Enter
 use Rattle.bp_words.specs.Waiters.Enters.{last_writer, first_readers, second_readers}
 use Rattle.bp_words.specs.Waiters.HandsOver.{lets_readers_in, lets_writer_in, writer_waits_on, wakes_writer}
 use Rattle.bp_words.specs.Waiters.Looks.{takes, finds_it_taken}
-use Rattle.bp_words.specs.Latch.{Latch, Step, Way, Heard}
+use Rattle.bp_words.specs.Latch.{Latch, latch_of, Step, Way, Heard}
 use Rattle.bp_words.specs.Latch.Step.{comes, leaves, enters, hands_over, looks}
 use Rattle.bp_words.specs.Latch.Way.{here, on}
 use Rattle.bp_words.proofs.Latch.{heard_first, heard_way}
@@ -21,41 +21,38 @@ word r w q c = record { readers = r; pins = 3; writers = w; queued = q; out = 1;
 abbrev nobody : Waiters
 nobody = record { writers = 0; let_in = 0; since = 0; is_awake = false; first = 0; second = 0; turns = 0 }
 
-abbrev at : Waiters → Fields → ℕ → Latch
-at q f calls = record { waiters = q; word = f; calls = calls }
-
 -- ---- Two readers and two writers wait
 
 -- one reads; a writer waits for it, then a reader, then another writer
 abbrev read : Latch
-read = at nobody (word 1 0 0 0) 0
+read = latch_of nobody (word 1 0 0 0) 0
 
 abbrev writer_came : Latch
-writer_came = at (record nobody { writers = 1; since = 1000 }) (word 1 0 1 1) 0
+writer_came = latch_of (record nobody { writers = 1; since = 1000 }) (word 1 0 1 1) 0
 
 abbrev reader_came : Latch
-reader_came = at (record nobody { writers = 1; since = 1000; second = 1 }) (word 1 0 1 1) 0
+reader_came = latch_of (record nobody { writers = 1; since = 1000; second = 1 }) (word 1 0 1 1) 0
 
 abbrev second_came : Latch
-second_came = at (record nobody { writers = 2; since = 1000; second = 1 }) (word 1 0 1 1) 0
+second_came = latch_of (record nobody { writers = 2; since = 1000; second = 1 }) (word 1 0 1 1) 0
 
 -- the latch is let go, and handed over to the first writer, since a reader waits behind it
 abbrev let_go : Latch
-let_go = at (record nobody { writers = 2; since = 1000; second = 1 }) (word 0 0 1 1) 1
+let_go = latch_of (record nobody { writers = 2; since = 1000; second = 1 }) (word 0 0 1 1) 1
 
 abbrev written : Latch
-written = at (record nobody { writers = 2; let_in = 1; since = 1400; first = 1 }) (word 0 1 1 1) 0
+written = latch_of (record nobody { writers = 2; let_in = 1; since = 1400; first = 1 }) (word 0 1 1 1) 0
 
 -- a reader that comes now goes before the other writer too
 abbrev joined : Latch
-joined = at (record nobody { writers = 2; let_in = 1; since = 1400; first = 2 }) (word 0 1 1 1) 0
+joined = latch_of (record nobody { writers = 2; let_in = 1; since = 1400; first = 2 }) (word 0 1 1 1) 0
 
 abbrev left : Latch
-left = at (record nobody { writers = 2; let_in = 1; since = 1400; first = 2 }) (word 0 0 1 1) 1
+left = latch_of (record nobody { writers = 2; let_in = 1; since = 1400; first = 2 }) (word 0 0 1 1) 1
 
 -- both readers are let in at once, and the writer waits on
 abbrev both : Latch
-both = at (record nobody { writers = 2; let_in = 1; since = 1400; turns = 1 }) (word 2 0 1 1) 0
+both = latch_of (record nobody { writers = 2; let_in = 1; since = 1400; turns = 1 }) (word 2 0 1 1) 0
 
 taken : (latch : ℕ) → ¬ (IsFree latch (word 1 0 1 1))
 taken latch is = let closed = is.1 in omega arith
@@ -105,7 +102,7 @@ let_in_then = omega arith
 
 -- A writer waits, asleep; nobody has the latch, and nobody is to hand it over.
 abbrev lost : Latch
-lost = at (record nobody { writers = 1; since = 1000 }) (word 0 0 1 1) 0
+lost = latch_of (record nobody { writers = 1; since = 1000 }) (word 0 0 1 1) 0
 
 pub not_heard : ¬ (Heard lost)
 not_heard h = ⊎_elim (λ (has : 0 < 0). omega arith) (λ (woken : (false ≡ true) × (0 ≡ 0)). no woken.0) (h.heard (omega arith))
@@ -116,26 +113,26 @@ not_heard h = ⊎_elim (λ (has : 0 < 0). omega arith) (λ (woken : (false ≡ t
 -- ---- A writer that is awake, and is passed by another until it is due
 
 abbrev alone : Latch
-alone = at (record nobody { writers = 1; since = 1000 }) (word 0 0 1 1) 1
+alone = latch_of (record nobody { writers = 1; since = 1000 }) (word 0 0 1 1) 1
 
 -- it is woken, and the word is open
 abbrev woken : Latch
-woken = at (record nobody { writers = 1; since = 1000; is_awake = true }) (word 0 0 1 0) 0
+woken = latch_of (record nobody { writers = 1; since = 1000; is_awake = true }) (word 0 0 1 0) 0
 
 -- another is faster
 abbrev passed : Latch
-passed = at (record nobody { writers = 1; since = 1000; is_awake = true }) (word 0 1 1 0) 0
+passed = latch_of (record nobody { writers = 1; since = 1000; is_awake = true }) (word 0 1 1 0) 0
 
 -- and it finds the latch taken: now nobody is
 abbrev closed : Latch
-closed = at (record nobody { writers = 1; since = 1000 }) (word 0 1 1 1) 0
+closed = latch_of (record nobody { writers = 1; since = 1000 }) (word 0 1 1 1) 0
 
 abbrev free : Latch
-free = at (record nobody { writers = 1; since = 1000 }) (word 0 0 1 1) 1
+free = latch_of (record nobody { writers = 1; since = 1000 }) (word 0 0 1 1) 1
 
 -- half a millisecond later the latch is handed over
 abbrev had : Latch
-had = at (record nobody { writers = 1; let_in = 1; since = 501000 }) (word 0 1 0 0) 0
+had = latch_of (record nobody { writers = 1; let_in = 1; since = 501000 }) (word 0 1 0 0) 0
 
 wakes : Step 2000 alone woken
 wakes = hands_over (Some (Writer 0)) refl (wakes_writer (refl, refl, omega arith, omega arith) refl refl refl)

@@ -10,7 +10,7 @@ use Rattle.bp_words.specs.Waiters.{readers_of, writers_of, all_of, IsLetIn, IsDu
 use Rattle.bp_words.specs.Waiters.Enters.{last_writer, first_readers, second_readers}
 use Rattle.bp_words.specs.Waiters.HandsOver.{nobody_waits, lets_readers_in, readers_wait_on, lets_writer_in, writer_waits_on, wakes_writer}
 use Rattle.bp_words.specs.Waiters.Looks.{sleeps_on, is_behind, takes, finds_it_taken}
-use Rattle.bp_words.specs.Latch.{Latch, Step, Way, Heard}
+use Rattle.bp_words.specs.Latch.{Latch, latch_of, Step, Way, Heard}
 use Rattle.bp_words.specs.Latch.Step.{comes, leaves, enters, hands_over, looks}
 use Rattle.bp_words.specs.Latch.Way.{here, on}
 use Rattle.bp_words.proofs.Steps.{not_yes, some_is}
@@ -177,17 +177,14 @@ record Shut (l m : Latch) : Type 0 where
   turns : m.waiters.let_in ≡ l.waiters.let_in → l.waiters.turns ≤ m.waiters.turns
   before : m.waiters.let_in ≡ l.waiters.let_in → m.waiters.turns + turns_before m ≤ l.waiters.turns + turns_before l
 
-abbrev at : Waiters → Fields → ℕ → Latch
-at q f calls = record { waiters = q; word = f; calls = calls }
-
-shut_at : (l m : Latch) (q : Waiters) (f : Fields) → m.waiters ≡ q → m.word ≡ f → Shut l (at q f m.calls) → Shut l m
-shut_at l m q f eq ef h = subst (λ (x : Waiters × Fields). Shut l (at x.0 x.1 m.calls)) (λ i. (sym eq i, sym ef i)) h
+shut_at : (l m : Latch) (q : Waiters) (f : Fields) → m.waiters ≡ q → m.word ≡ f → Shut l (latch_of q f m.calls) → Shut l m
+shut_at l m q f eq ef h = subst (λ (x : Waiters × Fields). Shut l (latch_of x.0 x.1 m.calls)) (λ i. (sym eq i, sym ef i)) h
 
 -- The queue is the same, and no writer comes.
-shut_same : (l : Latch) (f : Fields) (calls : ℕ) → f.closed ≡ 1 → f.writers ≤ l.word.writers → Shut l (at l.waiters f calls)
+shut_same : (l : Latch) (f : Fields) (calls : ℕ) → f.closed ≡ 1 → f.writers ≤ l.word.writers → Shut l (latch_of l.waiters f calls)
 shut_same l f calls closed fewer = record { let_in = omega arith; closed = λ _. closed; since = λ _. refl; some = λ _. omega arith; turns = λ _. omega arith; before = λ _. omega arith }
 
-shut_let_in : (l : Latch) (q : Waiters) (f : Fields) (calls : ℕ) → q.let_in ≡ l.waiters.let_in + 1 → Shut l (at q f calls)
+shut_let_in : (l : Latch) (q : Waiters) (f : Fields) (calls : ℕ) → q.let_in ≡ l.waiters.let_in + 1 → Shut l (latch_of q f calls)
 shut_let_in l q f calls up = record { let_in = omega arith; closed = λ same. absurd (omega arith); since = λ same. absurd (omega arith); some = λ same. absurd (omega arith); turns = λ same. absurd (omega arith); before = λ same. absurd (omega arith) }
 
 later_since : (others since now : ℕ) → 0 < others → first_since others since now ≡ since

@@ -11,6 +11,9 @@ pub record Latch : Type 0 where
   pub word : Fields
   pub calls : ℕ
 
+abbrev pub latch_of : Waiters → Fields → ℕ → Latch
+latch_of q f calls = record { waiters = q; word = f; calls = calls }
+
 -- threads wait, and nobody has a latch
 abbrev pub IsAwaited : Fields → Type 0
 IsAwaited f = (f.queued ≡ 1) × ¬ (IsLatched f)

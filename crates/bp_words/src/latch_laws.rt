@@ -3,9 +3,26 @@ ghost use Rattle.std.specs.Prelude.{◌≡◌, ◌⊎◌, ℕ, ◌+◌, ◌<◌,
 ghost use Rattle.bp_words.specs.declared.waiters.Waiters.{Waiters};
 ghost use Rattle.bp_words.specs.declared.waiters.Place.{Place};
 ghost use Rattle.bp_words.specs.declared.waiters.Place.TheVariants.{Readers, Writer};
-ghost use Rattle.bp_words.specs.Fields.{Fields, IsLatched};
+ghost use Rattle.bp_words.specs.Fields.{Fields, IsLatched, IsFree};
 ghost use Rattle.bp_words.specs.Waiters.{readers_of, writers_of, all_of, IsLetIn, IsDue, WriterIsEarly, HandsOver, Looks};
-ghost use Rattle.bp_words.specs.Latch.{Latch, Step, Way, Heard};
+ghost use Rattle.bp_words.specs.Latch.{Latch, latch_of, IsAwaited, Step, Way, Heard};
+
+/// Each change of the word, but by those that wait, is such a step: a thread comes, or its share goes. These are all that
+/// the other functions of the word give.
+pub fn each_change_is_a_step()
+    ensures reads { (now : ℕ) (q : Waiters) (f : Fields) (calls pins joins : ℕ) → Step now (latch_of q f calls)
+        (latch_of q (record f { readers = f.readers + 1; pins = pins; joins = joins }) calls) }
+    ensures writes { (now : ℕ) (q : Waiters) (f : Fields) (calls pins joins : ℕ) → IsFree 1099511627776 f →
+        Step now (latch_of q f calls)
+        (latch_of q (record f { writers = 1; pins = pins; joins = joins }) calls) }
+    ensures pins { (now : ℕ) (q : Waiters) (f : Fields) (calls pins out stays joins : ℕ) → Step now (latch_of q f calls)
+        (latch_of q (record f { pins = pins; out = out; stays = stays; joins = joins }) calls) }
+    ensures leaves { (now : ℕ) (q : Waiters) (f : Fields) (calls readers writers pins : ℕ) →
+        readers ≤ f.readers → writers ≤ f.writers →
+        let left = record f { readers = readers; writers = writers; pins = pins } in
+        (IsAwaited left → Step now (latch_of q f calls) (latch_of q left (calls + 1)))
+        × (¬ (IsAwaited left) → Step now (latch_of q f calls) (latch_of q left calls)) }
+{}
 
 /// No hand-over is lost: while threads wait the word says so, and one has the latch, or is to hand it over, or is the
 /// first writer, which is awake and before which no readers go. So it is once nobody waits, after each step of any
