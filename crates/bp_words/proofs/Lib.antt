@@ -6,3 +6,6 @@ pub mod Changes
 pub mod Steps
 pub mod Parts
 pub mod Keeping
+pub mod Latch
+pub mod Turns
+pub mod LatchExamples

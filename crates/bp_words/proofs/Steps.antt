@@ -319,7 +319,7 @@ flag_word slots id seen next t c j me lt lc made =
     flag_kept slots id seen next me (ap (λ (k : ℕ). k % 1048576) made ∙ e.0) (ap (λ (k : ℕ). k / 1048576 % 1048576) made ∙ e.1) (ap (λ (k : ℕ). k / 1099511627776 % 2) made ∙ e.2) e3 (omega arith)
     (inl (ap (λ (k : ℕ). k / 2199023255552 % 2) made ∙ e.5, refl))
 
-some_is : (n : ℕ) → 0 < n → some_of n ≡ 1
+pub some_is : (n : ℕ) → 0 < n → some_of n ≡ 1
 some_is zero up = absurd (omega arith)
 some_is (suc n) up = refl
 

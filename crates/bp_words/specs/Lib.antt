@@ -3,3 +3,5 @@ pub mod Fields
 pub mod Shares
 pub mod Views
 pub mod Rule
+pub mod Waiters
+pub mod Latch

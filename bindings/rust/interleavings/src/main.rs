@@ -8,6 +8,8 @@ mod numbers;
 mod runs;
 mod syncs;
 // What the pager runs. Some of its functions are of no use here.
+#[path = "../../src/pager/waiters.rs"]
+mod waiters;
 #[allow(dead_code)]
 #[path = "../../src/pager/word.rs"]
 mod word;

@@ -20,6 +20,7 @@ mod places;
 mod seats;
 mod syncs;
 mod upkeep;
+mod waiters;
 mod within;
 mod word;
 mod work;

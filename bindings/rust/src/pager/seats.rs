@@ -50,6 +50,7 @@
 //! [`Line`]: super::line::Line
 //! [`Queues`]: super::latch::Queues
 //! [`Queues::hand_over`]: super::latch::Queues::hand_over
+use super::waiters::{Change, Place, Waiters};
 use super::word::{JOIN, PIN, READER, Word};
 use crate::{Error, Result};
 use std::sync::atomic::{AtomicPtr, AtomicU32, AtomicU64, Ordering};
@@ -151,12 +152,17 @@ impl Seat {
         })
     }
 
-    /// Takes a latch beside a pin, if that is free and nobody waits for it. Else it notes that a
-    /// thread waits, and returns what was there. The queues are locked.
+    /// Takes a latch beside a pin, if that is free and nobody waits for it. Else it adds a thread to those
+    /// that wait, and returns where that sleeps. The queues are locked.
     ///
     /// # Errors
     /// [`Error::TooManyGuards`]: then nothing is changed.
-    pub(super) fn latch_or_queue(&self, latch: u64) -> Result<Option<Word>> {
+    pub(super) fn latch_or_queue(
+        &self,
+        waiters: &mut Waiters,
+        latch: u64,
+        now: u64,
+    ) -> Result<Option<Place>> {
         loop {
             if self.try_latch(latch, 0) {
                 return Ok(None);
@@ -164,37 +170,49 @@ impl Seat {
             // Only where the latch is not free now: so who lets it go finds this.
             // Acquire: what it tells, the queues' mutex tells too.
             // step: Queue::try_wait_to_read, Queue::try_wait_to_write
-            match self.change(Ordering::Acquire, |word| Word(word).with_queue(latch)) {
-                Ok(before) => return Ok(Some(before)),
+            let entered = |waiters: Waiters, word| waiters.entered(word, latch, now);
+            match self.change_queue(Ordering::Acquire, waiters, entered) {
+                Ok(place) => return Ok(place),
                 Err(word) if !word.has_room() => return Err(Error::TooManyGuards),
                 Err(_) => {}
             }
         }
     }
 
-    /// Adds the latches of readers that waited, if no writer is there. The queues are locked.
-    pub(super) fn let_readers_in(&self, readers: u64, is_queue_empty: bool) -> bool {
+    /// Hands the latch over to who is next, or opens the word for a writer that is next, and returns where
+    /// those sleep that are to be woken. The queues are locked.
+    pub(super) fn hand_over(&self, waiters: &mut Waiters, now: u64) -> Option<Place> {
         // AcqRel: this sees what was written under the latch, and those let in see it by the mutex.
-        // step: Queue::try_let_readers_in
-        let let_in = |word| Word(word).with_readers(readers, is_queue_empty);
-        self.change(Ordering::AcqRel, let_in).is_ok()
+        // step: Queue::try_let_readers_in, Queue::try_let_writer_in, Visitor::try_open
+        let handed = |waiters: Waiters, word| Some(waiters.handed_over(word, now));
+        let place = self.change_queue(Ordering::AcqRel, waiters, handed);
+        place.ok().flatten()
     }
 
-    /// Adds the latch of a writer that waited, if nobody has one. Else it notes that threads wait. The
-    /// queues are locked.
-    pub(super) fn let_writer_in(&self, is_queue_empty: bool) -> bool {
-        // AcqRel: as for readers.
+    /// Takes the latch for a writer that woke, if it is its turn and nobody has the latch. Else it notes
+    /// that threads wait. The queues are locked.
+    pub(super) fn look(&self, waiters: &mut Waiters, ticket: u64, now: u64) {
+        // AcqRel: as for those that are let in.
         // step: Queue::try_let_writer_in
-        let let_in = |word| Some(Word(word).with_writer(is_queue_empty));
-        let before = self.change(Ordering::AcqRel, let_in);
-        before.is_ok_and(|it| !it.is_latched())
+        let looked = |waiters: Waiters, word| Some(waiters.looked(word, ticket, now));
+        let _ = self.change_queue(Ordering::AcqRel, waiters, looked);
     }
 
-    /// Lets whoever comes take the latch: a writer that waits is awake. The queues are locked.
-    pub(super) fn open(&self) {
-        // Relaxed: who takes the latch then sees by its own step what was written.
-        // step: Visitor::try_open
-        let _ = self.change(Ordering::Relaxed, |word| Some(Word(word).opened()));
+    /// Changes the word and those that wait for the latch, if there is a change, and returns where threads
+    /// sleep. Else it returns what was there. The queues are locked.
+    fn change_queue(
+        &self,
+        order: Ordering,
+        waiters: &mut Waiters,
+        change: impl Fn(Waiters, Word) -> Option<Change>,
+    ) -> Result<Option<Place>, Word> {
+        let next = |word| change(*waiters, Word(word));
+        // Where the word stays as it is nothing is swapped: who leaves it later finds those that wait.
+        let swapped = |word: u64| Some(next(word)?.word).filter(|it| *it != word);
+        let (Ok(found) | Err(found)) = self.change(order, swapped);
+        let change = next(found.0).ok_or(found)?;
+        *waiters = change.waiters;
+        Ok(change.place)
     }
 
     /// Changes the word, if it is to be changed, and returns what was there.

@@ -1,8 +1,8 @@
 //! The latch of one page: the word of its seat, who waits for the latch, and who lets it go.
 //!
 //! The threads are alike, and each makes any calls without end. Each step is one access to the word, by the
-//! functions of `word.rs` that the pager runs; or one notification. What a thread does with the mutex of the
-//! queues is one step where it touches the word once: nobody else can see a part of that.
+//! functions of `word.rs` and `waiters.rs` that the pager runs; or one notification. What a thread does with the
+//! mutex of the queues is one step where it touches the word once: nobody else can see a part of that.
 mod queue;
 mod steps;
 

@@ -1,6 +1,8 @@
-//! The queue for the latch of one page, as `Queue` of `latch.rs`. It changes under the mutex of the queues.
+//! The queue for the latch of one page: `Waiters` of `waiters.rs`, which the pager runs, in a few bytes and without
+//! a time. It changes under the mutex of the queues.
 use super::{At, Place};
 use crate::numbers::Numbers;
+use crate::waiters::{self, Waiters};
 use crate::word::Word;
 
 /// The fields have the names that they have there.
@@ -14,57 +16,82 @@ pub(super) struct Queue {
     pub(super) turns: u8,
 }
 
-impl Queue {
-    pub(super) fn has_writers(&self) -> bool {
-        self.writers > self.let_in
-    }
+/// What a step makes of the queue and the word, and where threads sleep.
+#[derive(Clone, Copy, PartialEq, Eq)]
+pub(super) struct Change {
+    pub(super) queue: Queue,
+    pub(super) word: u64,
+    pub(super) place: Option<Place>,
+}
 
-    pub(super) fn is_empty(&self) -> bool {
-        !self.has_writers() && self.first + self.second == 0
+impl From<Queue> for Waiters {
+    fn from(queue: Queue) -> Waiters {
+        Waiters {
+            writers: u64::from(queue.writers),
+            let_in: u64::from(queue.let_in),
+            since: 0,
+            is_awake: queue.is_awake,
+            first: u64::from(queue.first),
+            second: u64::from(queue.second),
+            turns: u64::from(queue.turns),
+        }
+    }
+}
+
+impl From<Place> for waiters::Place {
+    fn from(place: Place) -> waiters::Place {
+        match place {
+            Place::Readers(turn) => waiters::Place::Readers(u64::from(turn)),
+            Place::Writer(ticket) => waiters::Place::Writer(u64::from(ticket)),
+        }
+    }
+}
+
+impl From<waiters::Change> for Change {
+    fn from(change: waiters::Change) -> Change {
+        let waiters = change.waiters;
+        Change {
+            queue: Queue {
+                writers: waiters.writers as u8,
+                let_in: waiters.let_in as u8,
+                is_awake: waiters.is_awake,
+                first: waiters.first as u8,
+                second: waiters.second as u8,
+                turns: waiters.turns as u8,
+            },
+            word: change.word,
+            place: change.place.map(|place| match place {
+                waiters::Place::Readers(turn) => Place::Readers(turn as u8),
+                waiters::Place::Writer(ticket) => Place::Writer(ticket as u8),
+            }),
+        }
+    }
+}
+
+impl Queue {
+    pub(super) fn is_empty(self) -> bool {
+        Waiters::from(self).is_empty()
     }
 
     /// Whether who sleeps at a place has got the latch.
-    pub(super) fn has_let_in(&self, place: Place) -> bool {
-        match place {
-            Place::Readers(turn) => turn != self.turns,
-            Place::Writer(ticket) => ticket < self.let_in,
-        }
+    pub(super) fn has_let_in(self, place: Place) -> bool {
+        Waiters::from(self).has_let_in(place.into())
     }
 
-    pub(super) fn add_writer(&mut self) -> Place {
-        self.writers += 1;
-        Place::Writer(self.writers - 1)
+    pub(super) fn entered(self, word: u64, latch: u64) -> Option<Change> {
+        let change = Waiters::from(self).entered(Word(word), latch, 0)?;
+        Some(change.into())
     }
 
-    pub(super) fn add_reader(&mut self, is_written: bool) -> Place {
-        if is_written {
-            self.first += 1;
-        } else {
-            self.second += 1;
-        }
-        Place::Readers(self.turns)
+    /// With the first writer due, or not: it has been the first since time 0.
+    pub(super) fn handed_over(self, word: u64, is_due: bool) -> Change {
+        let now = if is_due { u64::MAX } else { 0 };
+        Waiters::from(self).handed_over(Word(word), now).into()
     }
 
-    /// Gives the latch to the first writer, if nobody has it.
-    pub(super) fn let_writer_in(&mut self, word: &mut u64) -> bool {
-        let is_last = self.writers == self.let_in + 1 && self.second == 0;
-        let before = Word(*word);
-        *word = before.with_writer(is_last);
-        if before.is_latched() {
-            return false;
-        }
-        (self.first, self.second) = (self.second, 0);
-        self.let_in += 1;
-        self.is_awake = false;
-        true
-    }
-
-    /// Gives the latch to all readers that wait, and returns where they sleep.
-    pub(super) fn let_readers_in(&mut self, word: &mut u64, count: u8) -> Option<Place> {
-        *word = Word(*word).with_readers(u64::from(count), !self.has_writers())?;
-        (self.first, self.second) = (0, 0);
-        self.turns += 1;
-        Some(Place::Readers(self.turns - 1))
+    pub(super) fn looked(self, word: u64, ticket: u8) -> Change {
+        let ticket = u64::from(ticket);
+        Waiters::from(self).looked(Word(word), ticket, 0).into()
     }
 }
 

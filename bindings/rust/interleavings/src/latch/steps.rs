@@ -1,9 +1,8 @@
 //! What a thread does, step by step.
-use super::queue::Queue;
+use super::queue::{Change, Queue};
 use super::{At, Latch, Place, Share, Sleeper, State, Then, Weakness, Wish};
 use crate::explore::Step;
 use crate::word::{JOIN, PIN, READER, Word};
-use std::mem;
 
 /// So many joins that it is time for a reference.
 const MANY: u64 = 32 * JOIN;
@@ -311,20 +310,20 @@ impl<const THREADS: usize> Steps<'_, THREADS> {
 
     /// The second half, and what `Queues::wait` does until the thread sleeps.
     fn queue(&mut self, wish: Wish) {
-        let before = self.word();
-        let mut queued = before.with_queue(wish.latch.bits());
+        let (word, latch) = (self.state.word, wish.latch.bits());
+        let mut entered = self.state.queue.entered(word, latch);
         if self.is(Weakness::QueuesThoughFree) {
             // As it was when it looked.
-            let taken = Word(self.state.word + Share::Writer.bits());
-            let flags = taken.with_queue(READER).map(|it| it ^ taken.0);
-            queued = flags.map(|flags| self.state.word | flags);
+            let taken = word | Share::Writer.bits();
+            entered = self.state.queue.entered(taken, latch);
+            if let Some(change) = &mut entered {
+                change.word = word | (change.word ^ taken);
+            }
         }
-        match queued {
-            Some(word) => {
-                let mut queue = self.state.queue;
-                let place = match wish.latch {
-                    Share::Writer => queue.add_writer(),
-                    _ => queue.add_reader(before.is_written()),
+        match entered {
+            Some(Change { queue, word, place }) => {
+                let Some(place) = place else {
+                    unreachable!("who enters the queue sleeps at a place");
                 };
                 let sleeper = Sleeper {
                     wish,
@@ -336,14 +335,14 @@ impl<const THREADS: usize> Steps<'_, THREADS> {
                     (state.word, state.queue, state.is_locked) = (word, queue, false);
                 });
             }
-            None if before.has_room() => self.add("finds it free", At::Looking(wish), |_| {}),
+            None if Word(word).has_room() => self.add("finds it free", At::Looking(wish), |_| {}),
             None => self.add("is refused: too many", wish.given_up(), |state| {
                 state.is_locked = false;
             }),
         }
     }
 
-    /// `Queues::wait_to_write` and `wait_to_read`, once woken.
+    /// The loop of `Queues::wait`, once woken.
     fn sleep(&mut self, sleeper: Sleeper) {
         if !sleeper.is_woken {
             let is_woken = true;
@@ -357,13 +356,18 @@ impl<const THREADS: usize> Steps<'_, THREADS> {
             return;
         }
         let (mut queue, mut word) = (self.state.queue, self.state.word);
-        let is_in = match sleeper.place {
-            place if queue.has_let_in(place) => true,
-            Place::Writer(ticket) => self.looks(ticket, &mut queue, &mut word),
-            Place::Readers(_) => false,
-        };
+        if let Place::Writer(ticket) = sleeper.place {
+            let looks = queue.looked(word, ticket);
+            let is_in = looks.queue.has_let_in(sleeper.place);
+            if looks.queue != queue && !is_in && self.is(Weakness::WriterUnqueues) {
+                word = Word(looks.word).with_readers(0, true).unwrap_or(looks.word);
+            } else {
+                word = looks.word;
+            }
+            queue = looks.queue;
+        }
         let is_woken = false;
-        let (name, at) = match is_in {
+        let (name, at) = match queue.has_let_in(sleeper.place) {
             true => ("is let in", sleeper.wish.let_in()),
             false => (
                 "sleeps again",
@@ -376,68 +380,43 @@ impl<const THREADS: usize> Steps<'_, THREADS> {
         self.add(name, at, |state| (state.word, state.queue) = (word, queue));
     }
 
-    /// Whether a writer that was woken takes the latch. Only the first is awake. Where readers are before
-    /// it, the latch is handed over.
-    fn looks(&self, ticket: u8, queue: &mut Queue, word: &mut u64) -> bool {
-        let looks = queue.let_in == ticket && mem::take(&mut queue.is_awake);
-        let is_in = looks && queue.first == 0 && queue.let_writer_in(word);
-        if looks && !is_in && self.is(Weakness::WriterUnqueues) {
-            *word = Word(*word).with_readers(0, true).unwrap_or(*word);
-        }
-        is_in
-    }
-
     /// `Queues::hand_over`, but for the notification at its end. Whether a writer has been the first for long
-    /// enough (`is_due`) is any answer.
+    /// enough is any answer.
     fn hand_over(&mut self, then: Then) {
         let queue = self.state.queue;
-        if queue.is_empty() {
-            self.add("finds nobody", then.at(), |_| {});
-        } else if queue.first > 0 || !queue.has_writers() {
-            self.hand_to_readers(then);
-        } else {
-            self.hand_to_writer(then);
-            if queue.second == 0 || self.is(Weakness::OpensBesideReaders) {
-                self.wake_writer(then);
-            }
+        let [due, early] = [true, false].map(|is_due| queue.handed_over(self.state.word, is_due));
+        self.hands_over(due, then);
+        if early != due {
+            self.hands_over(early, then);
+        } else if queue.first == 0 && queue.second > 0 && self.is(Weakness::OpensBesideReaders) {
+            let second = queue.second;
+            let mut opened = Queue { second: 0, ..queue }.handed_over(self.state.word, false);
+            opened.queue.second = second;
+            self.hands_over(opened, then);
         }
     }
 
-    fn hand_to_readers(&mut self, then: Then) {
-        let (mut queue, mut word) = (self.state.queue, self.state.word);
-        let count = match self.is(Weakness::ForgetsSecond) && queue.first > 0 {
-            true => queue.first,
-            false => queue.first + queue.second,
+    fn hands_over(&mut self, change: Change, then: Then) {
+        let (queue, Change { place, .. }) = (self.state.queue, change);
+        let mut word = change.word;
+        let name = match place {
+            Some(Place::Readers(_)) => "hands over to readers",
+            Some(place) if change.queue.has_let_in(place) => "hands over to a writer",
+            Some(_) => "opens the word for a writer",
+            None if queue.is_empty() => "finds nobody",
+            None => "finds the latch taken, or the writer awake",
         };
-        let at = match queue.let_readers_in(&mut word, count) {
+        let lets_readers_in = matches!(place, Some(Place::Readers(_)));
+        if lets_readers_in && queue.first > 0 && self.is(Weakness::ForgetsSecond) {
+            word -= u64::from(queue.second) * READER;
+        }
+        let sleeps_on = name == "hands over to a writer" && self.is(Weakness::WriterSleepsOn);
+        let at = match place.filter(|_| !sleeps_on) {
             Some(place) => At::Notifying(place, then),
             None => then.at(),
         };
-        self.add("hands over to readers", at, |state| {
-            (state.word, state.queue) = (word, queue);
-        });
-    }
-
-    fn hand_to_writer(&mut self, then: Then) {
-        let (mut queue, mut word) = (self.state.queue, self.state.word);
-        let at = match queue.let_writer_in(&mut word) && !self.is(Weakness::WriterSleepsOn) {
-            true => At::Notifying(Place::Writer(queue.let_in - 1), then),
-            false => then.at(),
-        };
-        self.add("hands over to a writer", at, |state| {
-            (state.word, state.queue) = (word, queue);
-        });
-    }
-
-    fn wake_writer(&mut self, then: Then) {
-        let mut queue = self.state.queue;
-        let at = match mem::replace(&mut queue.is_awake, true) {
-            true => then.at(),
-            false => At::Notifying(Place::Writer(queue.let_in), then),
-        };
-        let word = self.word().opened();
-        self.add("opens the word for a writer", at, |state| {
-            (state.word, state.queue) = (word, queue);
+        self.add(name, at, |state| {
+            (state.word, state.queue) = (word, change.queue)
         });
     }
 
