@@ -240,7 +240,7 @@ def _path_of(name: str, target: str) -> str:
     found = ctypes.util.find_library(name)
     if found is None:
         raise ImportError(f"no lib{name}.so: install it and set HOJZMATED_PREFIX, or in a checkout run "
-                          f"`make -C bindings/c {target}`")
+                          f"`(cd crates/hojzmated_c && rt lib) && make -C bindings/c {target}`")
     return found
 
 

@@ -2,7 +2,8 @@
 //!
 //! It is looked for where `HOJZMATED_PREFIX` says, then in this crate's folder `lib/x86_64-linux`, where a
 //! package and the crate of a release have it, then where pkg-config says, and then in the checkout that
-//! this crate stands in, where `make -C bindings/c` builds it. For documents alone it is not wanted.
+//! this crate stands in. There `rt lib` in crates/hojzmated_c and then `make -C bindings/c` build it. For
+//! documents alone it is not wanted.
 use std::env;
 use std::path::{Path, PathBuf};
 use std::process::{Command, Stdio};
@@ -88,7 +89,7 @@ fn found_folder() -> Result<PathBuf, String> {
         .or_else(built_in_the_checkout)
         .ok_or(format!(
             "no {ARCHIVE}: install it and set HOJZMATED_PREFIX, or have pkg-config find hojzmated.pc; in a checkout \
-             `make -C bindings/c` builds it"
+             `(cd crates/hojzmated_c && rt lib) && make -C bindings/c` builds it"
         ))
 }
 
