@@ -113,6 +113,8 @@ typedef struct hz_ref {
 
 #define HZ_NO_PERIOD UINT64_MAX
 
+struct hz_observer;
+
 /* What a pager is made with. Begin with HZ_PAGER_CONFIG_INIT, and name the fields: later versions may have more. A
  * field of 0 has its default. */
 typedef struct hz_pager_config {
@@ -131,10 +133,11 @@ typedef struct hz_pager_config {
                                that is put to is never written out: HZ_WRITE_FAILED with the errno EACCES */
     uint8_t grows;          /* for hz_pager_new_file, 1: a file with fewer pages than the field pages gets pages of
                                zeros, up to these. Else it is refused */
+    const struct hz_observer *observer; /* is told what goes on. Null: nobody is. It is copied */
 } hz_pager_config;
 
 /* A config whose fields have their defaults, but for the three that have none. */
-#define HZ_PAGER_CONFIG_INIT {sizeof(hz_pager_config), 0, 0, 0, 0, 0, 0, 0, 0, 0, 0, 0}
+#define HZ_PAGER_CONFIG_INIT {sizeof(hz_pager_config), 0, 0, 0, 0, 0, 0, 0, 0, 0, 0, 0, 0}
 
 /* What a read callback answers where it found another page than it was asked for, or a wrong checksum. */
 #define HZ_IO_WRONG_PAGE (-1)
@@ -178,6 +181,45 @@ typedef struct hz_pager_fault {
     uint8_t has_page; /* 0 or 1. The page may be another than that of the call: a victim that could not be written */
 } hz_pager_fault;
 
+/* What a call slept for, and of what: a page, or an LSN where that is said. */
+enum hz_wait {
+    HZ_WAIT_PAGE = 1,  /* till another thread had read the page, or written it out */
+    HZ_WAIT_LATCH = 2, /* for a latch of the page */
+    HZ_WAIT_FRAME = 3, /* for a frame for the page */
+    HZ_WAIT_PINS = 4,  /* till others gave the page back, which was to be dropped */
+    HZ_WAIT_LOG = 5,   /* till another thread had made the log durable, which this one wanted as far as the LSN */
+    HZ_WAIT_SYNC = 6,  /* till another thread had synced the device. Of 0 */
+};
+
+/* What goes on in a pager, as functions that it calls, for counters, histograms and traces: each event once, as it has
+ * ended. Each function gets the engine's own pointer. One that is null is not called. ns are nanoseconds of a clock
+ * that never goes back: from before a callback of hz_io was called, or the file was used, to the end of that.
+ *
+ * The thread is the one whose call it is, so several may be in these at once. The pager holds no lock meanwhile. But
+ * the thread may have latches, and others may wait for the page: so these are short, and take no lock that a thread has
+ * while it waits for a page. Of this pager they may make the calls that a callback may; any other call on any pager is
+ * refused with HZ_IN_CALLBACK. They return: what callbacks may not do they may not either. */
+typedef struct hz_observer {
+    size_t size; /* of this struct: sizeof(hz_observer) */
+    void *own;
+    /* So many pages side by side, from the first one on, were read. */
+    void (*read)(void *own, uint64_t first, uint64_t count, uint64_t ns);
+    /* They were written. */
+    void (*write_out)(void *own, uint64_t first, uint64_t count, uint64_t ns);
+    /* The log was made durable as far as lsn. */
+    void (*log)(void *own, uint64_t lsn, uint64_t ns);
+    /* The device was synced. */
+    void (*sync)(void *own, uint64_t ns);
+    /* The page left its frame to make way for another one. */
+    void (*evict)(void *own, uint64_t page);
+    /* A call slept so long in all for what other threads had or did: one of enum hz_wait. A call that waited for
+     * several things tells of each. */
+    void (*wait)(void *own, int what, uint64_t of, uint64_t ns);
+    /* A callback of hz_io, or the file, failed after so long: also where the call went on with another page. The fault
+     * is as hz_pager_fault_of tells it, and there until this returns. Of pages side by side it names the first. */
+    void (*fault)(void *own, const hz_pager_fault *fault, uint64_t ns);
+} hz_observer;
+
 /* What was counted since the pager was made, about, and how many pages there are of each kind now. While other threads
  * use the pager, each part is counted at a moment of its own. */
 typedef struct hz_pager_stats {
@@ -200,7 +242,7 @@ typedef struct hz_pager_stats {
  *
  *     HZ_NULL          also where a callback is null
  *     HZ_HAS_CORE
- *     HZ_BAD_SETTINGS, HZ_BAD_GEOMETRY  a field of the config is out of its limits. The size of config and io too: it
+ *     HZ_BAD_SETTINGS, HZ_BAD_GEOMETRY  a field of the config is out of its limits. Each size too, as that of io: it
  *                      is none of a version of the header, or there are bytes that are not 0 where this library has no
  *                      field. What they have not is 0
  *     HZ_VERSION_MISMATCH

@@ -20,7 +20,7 @@ LIES(hz_ref, serial, 16, 8);
 LIES(hz_ref, slot, 24, 4);
 LIES(hz_ref, how, 28, 4);
 
-HOLDS(sizeof(hz_pager_config) == 72);
+HOLDS(sizeof(hz_pager_config) == 80);
 LIES(hz_pager_config, size, 0, 8);
 LIES(hz_pager_config, pages, 8, 8);
 LIES(hz_pager_config, page_size, 16, 8);
@@ -33,6 +33,18 @@ LIES(hz_pager_config, k, 64, 1);
 LIES(hz_pager_config, tells_each_pin, 65, 1);
 LIES(hz_pager_config, read_only, 66, 1);
 LIES(hz_pager_config, grows, 67, 1);
+LIES(hz_pager_config, observer, 72, 8);
+
+HOLDS(sizeof(hz_observer) == 72);
+LIES(hz_observer, size, 0, 8);
+LIES(hz_observer, own, 8, 8);
+LIES(hz_observer, read, 16, 8);
+LIES(hz_observer, write_out, 24, 8);
+LIES(hz_observer, log, 32, 8);
+LIES(hz_observer, sync, 40, 8);
+LIES(hz_observer, evict, 48, 8);
+LIES(hz_observer, wait, 56, 8);
+LIES(hz_observer, fault, 64, 8);
 
 HOLDS(sizeof(hz_io) == 48);
 LIES(hz_io, size, 0, 8);

@@ -110,16 +110,31 @@ static void sizes(void)
         uint64_t later;
     } further = {io, 0};
     hz_pager pager = {0};
-    enum { OWN = sizeof(hz_pager_config) };
-    static const size_t wrong_sizes[] = {0, 8, OWN - 8, OWN + 4, 4104, SIZE_MAX};
+    enum { OWN = sizeof(hz_pager_config), FIRST = offsetof(hz_pager_config, observer) };
+    static const size_t wrong_sizes[] = {0, 8, FIRST - 8, OWN + 4, 4104, SIZE_MAX};
     for (size_t i = 0; i < sizeof wrong_sizes / sizeof *wrong_sizes; i++) {
         longer.config.size = wrong_sizes[i];
         REFUSED(HZ_BAD_SETTINGS, 0, 0, 0, 0, hz_pager_new(&longer.config, &io, &pager));
         SAME(HZ_BAD_SETTINGS, hz_pager_new_file(&longer.config, -1, 1, &pager));
     }
+    /* What stands after a shorter one is no field of it. */
+    longer.config.size = FIRST, longer.config.observer = (const hz_observer *)(uintptr_t)ODD;
+    SAME(HZ_DONE, hz_pager_new(&longer.config, &io, &pager));
+    hz_ref ref = fixed(&pager, 3, HZ_SHARED);
+    SAME(HZ_DONE, hz_pager_unfix(&ref));
+    end(&pager);
+    hz_observer watched = {0};
+    longer.config.size = OWN, longer.config.observer = &watched;
+    REFUSED(HZ_BAD_SETTINGS, 0, 0, 0, 0, hz_pager_new(&longer.config, &io, &pager));
+    watched.size = sizeof watched;
+    SAME(HZ_DONE, hz_pager_new(&longer.config, &io, &pager));
+    ref = fixed(&pager, 3, HZ_SHARED); /* no function is called: each is null */
+    SAME(HZ_DONE, hz_pager_unfix(&ref));
+    end(&pager);
+    longer.config.observer = NULL;
     longer.config.size = sizeof longer, further.io.size = sizeof further;
     SAME(HZ_DONE, hz_pager_new(&longer.config, &further.io, &pager));
-    hz_ref ref = fixed(&pager, 3, HZ_SHARED);
+    ref = fixed(&pager, 3, HZ_SHARED);
     SAME(HZ_DONE, hz_pager_unfix(&ref));
     struct {
         hz_pager_stats stats;

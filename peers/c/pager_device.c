@@ -6,6 +6,7 @@
 #define _POSIX_C_SOURCE 200809L
 #include "pager_test.h"
 #include <fcntl.h>
+#include <time.h>
 #include <unistd.h>
 
 /* ---- Memory, of which one request in a round may be refused ---- */
@@ -348,6 +349,123 @@ static void callbacks(void)
     end(&pager);
 }
 
+/* ---- What goes on, told as it happens ---- */
+
+enum { WORK_NS = 2000000 };
+
+static char told[400];
+static hz_pager *watched;
+
+/* So long each callback takes at least. */
+static void rest(void)
+{
+    nanosleep(&(struct timespec){0, WORK_NS}, NULL);
+}
+
+/* Adds a line, and asks the pager what only tells; what may wait is refused. */
+static void tell(void *own, uint64_t least, uint64_t ns, const char *what, uint64_t of, uint64_t count)
+{
+    hz_pager_stats stats;
+    hz_ref ref;
+    size_t len = strlen(told);
+    SAME((uintptr_t)told, (uintptr_t)own);
+    SAME(true, ns >= least);
+    snprintf(told + len, sizeof told - len, "%s %llu %llu\n", what, (unsigned long long)of, (unsigned long long)count);
+    SAME(HZ_DONE, hz_pager_stats_of(watched, &stats, sizeof stats));
+    SAME(HZ_IN_CALLBACK, hz_pager_fix(watched, 7, HZ_SHARED, &ref));
+    SAME(HZ_IN_CALLBACK, hz_pager_flush(watched, 7));
+}
+
+static void was_read(void *own, uint64_t first, uint64_t count, uint64_t ns)
+{
+    tell(own, WORK_NS, ns, "read", first, count);
+}
+
+static void was_written(void *own, uint64_t first, uint64_t count, uint64_t ns)
+{
+    tell(own, WORK_NS, ns, "write_out", first, count);
+}
+
+static void log_is_durable(void *own, uint64_t lsn, uint64_t ns)
+{
+    tell(own, WORK_NS, ns, "log", lsn, 0);
+}
+
+static void was_synced(void *own, uint64_t ns)
+{
+    tell(own, WORK_NS, ns, "sync", 0, 0);
+}
+
+static void was_evicted(void *own, uint64_t page)
+{
+    tell(own, 0, 0, "evict", page, 0);
+}
+
+static void waited(void *own, int what, uint64_t of, uint64_t ns)
+{
+    tell(own, WORK_NS, ns, "wait", (uint64_t)what, of);
+}
+
+static void failed(void *own, const hz_pager_fault *fault, uint64_t ns)
+{
+    SAME(EIO, fault->error);
+    SAME(1, fault->has_page);
+    tell(own, WORK_NS, ns, "fault", fault->number, fault->page);
+}
+
+/* All lines since the last time. */
+static void is_told_of(const char *wanted, int line)
+{
+    if (strcmp(wanted, told))
+        wrong(__FILE__, line, told, 0);
+    *told = 0;
+}
+
+static void *look_at_5(void *pager)
+{
+    hz_ref ref = fixed(pager, 5, HZ_SHARED);
+    SAME(HZ_DONE, hz_pager_unfix(&ref));
+    return NULL;
+}
+
+static void observed(void)
+{
+    hz_pager_config config = usual();
+    hz_pager pager = start();
+    hz_observer observer = {sizeof observer, told,        was_read, was_written, log_is_durable,
+                            was_synced,      was_evicted, waited,   failed};
+    hz_pager_stats stats;
+    hz_ref ref;
+    uint64_t lsn;
+    uint8_t has_lsn;
+    pthread_t thread;
+    end(&pager);
+    config.frames = 1, config.observer = &observer;
+    SAME(HZ_DONE, hz_pager_new(&config, &io, &pager));
+    memset(&observer, 0, sizeof observer); /* it was copied */
+    watched = &pager, device.inside = rest;
+    change(&pager, 1, 11, 50);
+    change(&pager, 2, 22, 0);
+    is_told_of("read 1 1\nlog 50 0\nwrite_out 1 1\nevict 1 0\nread 2 1\n", __LINE__);
+    SAME(HZ_DONE, hz_pager_checkpoint(&pager, &lsn, &has_lsn));
+    is_told_of("write_out 2 1\nsync 0 0\n", __LINE__);
+    device.read_error = EIO;
+    REFUSED(HZ_READ_FAILED, 1, 3, 0, EIO, hz_pager_fix(&pager, 3, HZ_SHARED, &ref));
+    device.read_error = 0;
+    is_told_of("evict 2 0\nfault 17 3\n", __LINE__);
+    ref = fixed(&pager, 5, HZ_EXCLUSIVE);
+    SAME(0, pthread_create(&thread, NULL, look_at_5, &pager));
+    do
+        SAME(HZ_DONE, hz_pager_stats_of(&pager, &stats, sizeof stats));
+    while (stats.waits == 0);
+    rest();
+    SAME(HZ_DONE, hz_pager_unfix(&ref));
+    SAME(0, pthread_join(thread, NULL));
+    is_told_of("read 5 1\nwait 2 5\n", __LINE__);
+    device.inside = NULL;
+    end(&pager);
+}
+
 /* ---- Threads ---- */
 
 enum { THREADS = 8, ROUNDS = 4000 };
@@ -554,6 +672,7 @@ int main(void)
     periods();
     pins_that_are_told();
     callbacks();
+    observed();
     threads();
     fault_of_many();
     clock_at_its_end();

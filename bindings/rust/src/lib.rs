@@ -34,6 +34,9 @@
 //! **Rules.** What an engine has to keep, so that its data is safe and no call is refused without need, is in
 //! the module [`rules`]: the order of a checkpoint, redo after a crash, locks beside latches.
 //!
+//! **What goes on inside.** An [`Observer`] is told of reads, write-outs, evictions, waits and faults as they happen,
+//! with their times; [`Pager::stats`] has counts.
+//!
 //! **Limits.** A page has 16 to 65,536 bytes, a multiple of 16. A [`Pager`] has at most 67,108,864 pages, with
 //! 8 bytes of memory for each, and 4,194,304 frames; a [`Pool`](crate::core::Pool) 1,048,576 and 65,536. The number of
 //! pages is given as it is made, and a file may grow up to it.
@@ -61,6 +64,7 @@ mod fault;
 mod files;
 mod image;
 mod io;
+mod observer;
 mod pager;
 #[cfg(doctest)]
 mod refused;
@@ -74,6 +78,7 @@ pub use error::{Error, Result};
 pub use fault::{LogFault, PagerError, ReadFault};
 pub use files::{Device, FileOptions, FilePages, Layout, Log, NoLog, OpenError, WithLog};
 pub use io::PageIo;
+pub use observer::{Observer, Wait};
 pub use pager::{
     Cleaner, OwnedMut, OwnedPin, OwnedRef, PageMut, PagePin, PageRef, Pager, PagerConfig, Readers,
     Stats,

@@ -31,6 +31,7 @@ pub struct hz_pager_config {
     pub tells_each_pin: u8,
     pub read_only: u8,
     pub grows: u8,
+    pub observer: *const hz_observer,
 }
 
 #[repr(C)]
@@ -52,6 +53,20 @@ pub struct hz_pager_fault {
     pub error: i32,
     pub number: u16,
     pub has_page: u8,
+}
+
+#[repr(C)]
+#[derive(Clone, Copy)]
+pub struct hz_observer {
+    pub size: usize,
+    pub own: *mut c_void,
+    pub read: Option<unsafe extern "C" fn(*mut c_void, u64, u64, u64)>,
+    pub write_out: Option<unsafe extern "C" fn(*mut c_void, u64, u64, u64)>,
+    pub log: Option<unsafe extern "C" fn(*mut c_void, u64, u64)>,
+    pub sync: Option<unsafe extern "C" fn(*mut c_void, u64)>,
+    pub evict: Option<unsafe extern "C" fn(*mut c_void, u64)>,
+    pub wait: Option<unsafe extern "C" fn(*mut c_void, c_int, u64, u64)>,
+    pub fault: Option<unsafe extern "C" fn(*mut c_void, *const hz_pager_fault, u64)>,
 }
 
 #[repr(C)]
@@ -106,6 +121,13 @@ pub const HZ_SHARED: u32 = 1;
 pub const HZ_EXCLUSIVE: u32 = 2;
 pub const HZ_PINNED: u32 = 3;
 pub const HZ_TRY: u32 = 16;
+
+pub const HZ_WAIT_PAGE: c_int = 1;
+pub const HZ_WAIT_LATCH: c_int = 2;
+pub const HZ_WAIT_FRAME: c_int = 3;
+pub const HZ_WAIT_PINS: c_int = 4;
+pub const HZ_WAIT_LOG: c_int = 5;
+pub const HZ_WAIT_SYNC: c_int = 6;
 
 pub const HZ_NO_PERIOD: u64 = u64::MAX;
 pub const HZ_IO_WRONG_PAGE: c_int = -1;

@@ -2,6 +2,7 @@
 use crate::abi::{HZ_BAD_SETTINGS, HZ_IO_NOT_YET, HZ_IO_WRONG_PAGE, hz_io, hz_pager_config};
 use crate::fault::{self, EBADF, Refusal, refusal};
 use crate::held;
+use crate::observer::Own;
 use hojzmated::{
     Device as _, FileOptions, FilePages, Layout, LogFault, OpenError, PageIo, ReadFault,
 };
@@ -13,7 +14,7 @@ use std::mem::ManuallyDrop;
 use std::os::fd::{FromRawFd, IntoRawFd};
 use std::ptr;
 
-/// Where a pager has its pages.
+/// Where a pager has its pages. The observer is there until the pager is gone, of which this goes last.
 pub enum Device {
     Callbacks(Callbacks),
     File(PageFile),
@@ -26,6 +27,7 @@ pub struct Callbacks {
     write: unsafe extern "C" fn(*mut c_void, u64, *mut u8, usize, u64) -> c_int,
     make_log_durable: unsafe extern "C" fn(*mut c_void, u64) -> c_int,
     sync: unsafe extern "C" fn(*mut c_void) -> c_int,
+    _observer: Option<Own>,
 }
 
 // SAFETY: the header says that several threads may be in the callbacks at once. The pointer is the
@@ -36,19 +38,20 @@ unsafe impl Sync for Callbacks {}
 
 impl Callbacks {
     /// None where a callback is null.
-    pub fn new(io: &hz_io) -> Option<Callbacks> {
+    pub fn new(io: &hz_io, observer: Option<Own>) -> Option<Callbacks> {
         Some(Callbacks {
             own: io.own,
             read: io.read?,
             write: io.write?,
             make_log_durable: io.make_log_durable?,
             sync: io.sync?,
+            _observer: observer,
         })
     }
 }
 
 /// A page file of the engine, whose descriptor stays open.
-pub struct PageFile(ManuallyDrop<FilePages>);
+pub struct PageFile(ManuallyDrop<FilePages>, Option<Own>);
 
 impl PageFile {
     /// Locks the file, and has it as the settings say. Refused also for an unknown format.
@@ -59,6 +62,7 @@ impl PageFile {
         fd: c_int,
         format: c_int,
         config: &hz_pager_config,
+        observer: Option<Own>,
     ) -> Result<PageFile, Refusal> {
         let layout = match format {
             1 => Layout::Plain,
@@ -80,12 +84,17 @@ impl PageFile {
         let file = unsafe { File::from_raw_fd(fd) };
         let opened = options.read_only(config.read_only != 0).over_or_back(file);
         match opened {
-            Ok(pages) => Ok(PageFile(ManuallyDrop::new(pages))),
+            Ok(pages) => Ok(PageFile(ManuallyDrop::new(pages), observer)),
             Err((error, file)) => {
                 let _ = file.into_raw_fd();
                 Err(error.into())
             }
         }
+    }
+
+    /// Who is told what goes on, if anybody is.
+    pub fn observer(&self) -> Option<&Own> {
+        self.1.as_ref()
     }
 
     /// The number of pages that the file has.
@@ -127,19 +136,20 @@ pub fn with_scratch<T>(len: usize, use_it: impl FnOnce(&mut [u8]) -> T) -> io::R
     Ok(used)
 }
 
-/// That this thread is in a callback of a device, and in those from which that was called.
+/// That this thread is in a callback of a device, or of an observer, which has none; and in those from which that was
+/// called.
 struct Inside {
     device: *const Device,
     outer: *const Inside,
 }
 
-/// Whether this thread is in a callback of the device.
+/// Whether this thread is in a callback of the device, or in one that is told what goes on in whichever pager.
 #[inline]
 pub fn is_inside(device: &Device) -> bool {
     let mut inside = INSIDE.get();
     // SAFETY: each is on the stack of this thread, in a call of `called` that has not ended.
     while let Some(one) = unsafe { inside.as_ref() } {
-        if ptr::eq(one.device, device) {
+        if one.device.is_null() || ptr::eq(one.device, device) {
             return true;
         }
         inside = one.outer;
@@ -148,7 +158,7 @@ pub fn is_inside(device: &Device) -> bool {
 }
 
 /// Makes a callback, and notes meanwhile that it is under way.
-fn called(device: &Device, callback: impl FnOnce() -> c_int) -> c_int {
+fn called<T>(device: *const Device, callback: impl FnOnce() -> T) -> T {
     let inside = Inside {
         device,
         outer: INSIDE.get(),
@@ -160,6 +170,11 @@ fn called(device: &Device, callback: impl FnOnce() -> c_int) -> c_int {
     INSIDE.set(inside.outer);
     before.note();
     answer
+}
+
+/// Calls a function that is told what goes on.
+pub fn told(function: impl FnOnce()) {
+    called(ptr::null(), function);
 }
 
 /// The outcome of a callback that answered this.

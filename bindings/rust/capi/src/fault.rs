@@ -121,8 +121,14 @@ impl From<Error> for hz_pager_fault {
 
 impl From<PagerError> for hz_pager_fault {
     fn from(error: PagerError) -> hz_pager_fault {
+        hz_pager_fault::from(&error)
+    }
+}
+
+impl From<&PagerError> for hz_pager_fault {
+    fn from(error: &PagerError) -> hz_pager_fault {
         let of_error = hz_pager_fault::of_error;
-        match &error {
+        match error {
             PagerError::Read { page, source } => of_error(HZ_READ_FAILED, source).at(*page),
             PagerError::Write { page, source } => of_error(HZ_WRITE_FAILED, source).at(*page),
             PagerError::WrongPage { page } | PagerError::Spoilt { page } => {

@@ -41,6 +41,7 @@ fn in_rust(c: &str) -> String {
             None => format!("*mut {}", in_rust(target)),
         };
     }
+    let c = c.strip_prefix("struct ").unwrap_or(c);
     let number = c.strip_suffix("_t").unwrap_or(c);
     match number {
         "void" => "c_void".into(),
@@ -78,8 +79,12 @@ fn field_in_rust(field: &str) -> String {
         return format!("{name}: {its_type}");
     };
     let (name, parameters) = callback.split_once(")(").unwrap();
-    let (types, result) = (types_of(parameters.trim_end_matches(')')), in_rust(result));
-    format!("{name}: Option<unsafe extern \"C\" fn({types}) -> {result}>")
+    let types = types_of(parameters.trim_end_matches(')'));
+    let result = match result.trim() {
+        "void" => String::new(),
+        result => format!(" -> {}", in_rust(result)),
+    };
+    format!("{name}: Option<unsafe extern \"C\" fn({types}){result}>")
 }
 
 /// Words with one space between them, and no comma at the end of a list.
@@ -107,7 +112,7 @@ fn structs() {
         .map(|it| it.replace("*mut Pager", "*mut c_void"))
         .collect();
     assert_eq!(there, here);
-    assert_eq!(here.len(), 6);
+    assert_eq!(here.len(), 7);
 }
 
 /// Each call of the header is here, in the same order and with the same types.
@@ -156,7 +161,7 @@ fn numbers() {
         assert!(lines.iter().any(|line| headers.contains(line)), "{name}");
         count += 1;
     }
-    assert_eq!(count, 35);
+    assert_eq!(count, 41);
     let own = between(&headers, "enum hz_pager_refusal {", "}").unwrap().0;
     let how = between(&headers, "enum hz_how {", "}").unwrap().0;
     for line in own.lines().chain(how.lines()) {

@@ -23,6 +23,7 @@ mod fault;
 #[allow(clippy::unwrap_used)]
 mod header;
 mod held;
+mod observer;
 mod sized;
 
 use abi::*;
@@ -30,6 +31,7 @@ use device::{Callbacks, Device, PageFile, is_inside, with_scratch};
 use fault::{Refusal, refusal, refusal_of, refused_at};
 use held::Held;
 use hojzmated::{Error, Left, Missed, MissedAlone, PagerConfig, PagerError};
+use observer::Own;
 use std::any::Any;
 use std::ffi::{c_char, c_int};
 use std::panic::{AssertUnwindSafe, catch_unwind};
@@ -141,7 +143,30 @@ fn period(field: u64, default: u64) -> u64 {
 }
 
 impl hz_pager_config {
-    fn settings(&self, pages: u64) -> PagerConfig {
+    /// A copy of the observer, if there is one.
+    ///
+    /// # Safety
+    /// The pointer is null, or leads to so many bytes as the size there says.
+    unsafe fn observer(&self) -> Outcome<Option<Own>> {
+        if self.observer.is_null() {
+            return Ok(None);
+        }
+        // SAFETY: the caller says so.
+        Own::new(unsafe { sized::given(self.observer) }?).map(Some)
+    }
+
+    /// # Safety
+    /// They are not used once the observer is gone.
+    unsafe fn settings(&self, pages: u64, observer: Option<&Own>) -> PagerConfig {
+        let settings = self.plain_settings(pages);
+        match observer {
+            // SAFETY: the caller says so.
+            Some(own) => settings.with_lent_observer(unsafe { own.lent() }),
+            None => settings,
+        }
+    }
+
+    fn plain_settings(&self, pages: u64) -> PagerConfig {
         let (page_size, frames) = (self.page_size, self.frames);
         let default = match self.parts {
             0 => PagerConfig::new(pages, page_size, frames),
@@ -202,14 +227,14 @@ pub unsafe extern "C" fn hz_pager_new(
         }
         // SAFETY: as the header says.
         let (config, io) = unsafe { (sized::given(config)?, sized::given(io)?) };
-        let callbacks = Callbacks::new(&io).ok_or_else(|| refusal(HZ_NULL))?;
+        // SAFETY: as the header says.
+        let observer = unsafe { config.observer() }?;
+        // SAFETY: the device has the observer, and the pager the device.
+        let settings = unsafe { config.settings(config.pages, observer.as_ref()) };
+        let callbacks = Callbacks::new(&io, observer).ok_or_else(|| refusal(HZ_NULL))?;
         // SAFETY: as the header says.
         let handle = unsafe { empty(pager) }?;
-        make(
-            &config.settings(config.pages),
-            Device::Callbacks(callbacks),
-            handle,
-        )
+        make(&settings, Device::Callbacks(callbacks), handle)
     })
 }
 
@@ -227,9 +252,11 @@ pub unsafe extern "C" fn hz_pager_new_file(
         // SAFETY: as the header says.
         let (config, handle) = unsafe { (sized::given(config)?, empty(pager)?) };
         // SAFETY: a file of the descriptor is open till after `hz_pager_free`.
-        let file = unsafe { PageFile::new(fd, format, &config) }?;
+        let file = unsafe { PageFile::new(fd, format, &config, config.observer()?) }?;
         let pages = or(config.pages, file.pages());
-        make(&config.settings(pages), Device::File(file), handle)
+        // SAFETY: as above.
+        let settings = unsafe { config.settings(pages, file.observer()) };
+        make(&settings, Device::File(file), handle)
     })
 }
 

@@ -1,9 +1,14 @@
 //! Structs of C whose sizes the caller tells, as those of later versions are longer. What the caller's has
 //! not is zeros here, and what this library's has not has to be zeros there.
-use crate::abi::{HZ_BAD_SETTINGS, HZ_NULL, hz_io, hz_pager_config};
+use crate::abi::{HZ_BAD_SETTINGS, HZ_NULL, hz_io, hz_observer, hz_pager_config};
 use crate::fault::{Refusal, refusal};
 use std::mem::MaybeUninit;
 use std::ptr;
+
+// SAFETY: see there; a function that is null is None.
+unsafe impl Begins for hz_observer {
+    const FIRST: usize = 72;
+}
 
 /// Above that it is no size.
 const MOST: usize = 4096;

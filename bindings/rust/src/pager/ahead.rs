@@ -3,13 +3,12 @@ use super::Pager;
 use super::part::{Fix, Part};
 use super::pins::PASSES;
 use super::seats::list_of;
-use super::within::{self, Work};
+use super::within::Work;
 use super::work::{Reading, Writing};
 use crate::image::Image;
-use crate::{PageIo, Result};
+use crate::{Error, PageIo, PagerError, Result};
 use std::collections::VecDeque;
 use std::io;
-use std::panic::{AssertUnwindSafe, catch_unwind};
 use std::sync::atomic::{AtomicBool, Ordering};
 use std::sync::{Arc, Condvar, Mutex, MutexGuard, PoisonError};
 use std::thread::{self, JoinHandle};
@@ -178,7 +177,8 @@ impl<F: PageIo + Send + Sync + 'static> Pager<F> {
     /// [`PageIo::read_pages`]. So where the device is slow to answer, as many reads are under way as there
     /// are threads.
     ///
-    /// Where a page has to be written out to make way, they do that. They make no log durable.
+    /// Where a page has to be written out to make way, they do that. They make no log durable. What goes wrong
+    /// there, a panic of the engine's functions too, is told to an [`Observer`](crate::Observer), if there is one.
     ///
     /// # Errors
     /// Where the system has no thread for it, or there is no memory.
@@ -218,11 +218,10 @@ impl<F: PageIo + Send + Sync + 'static> Pager<F> {
         while self.ahead.next(most, &mut row, is_over, is_late) {
             if images.is_empty() {
                 // Without memory the pages are left to who asks for them.
-                images = Image::zeros(most * self.config().page_size).unwrap_or_default();
+                let made = Image::zeros(most * self.config().page_size);
+                images = self.got(made).unwrap_or_default();
             }
-            let read = || self.read_row(&row, &mut images);
-            // The engine's code may panic, and is called again all the same.
-            let _ = catch_unwind(AssertUnwindSafe(read));
+            self.watch.go_on(|| self.read_row(&row, &mut images));
         }
     }
 }
@@ -282,7 +281,11 @@ impl Part {
             return Ok(Began::WouldWrite);
         }
         Ok(match self.ask(&mut state, page) {
-            Ok(Fix::Read(ticket)) => Began::Reads(Reading::ahead(self, state, ticket)),
+            Ok(Fix::Read(ticket, evicted)) => {
+                let reading = Reading::ahead(self, state, ticket);
+                self.tell_evicted(evicted);
+                Began::Reads(reading)
+            }
             Ok(Fix::Write(ticket)) => {
                 state.unused_ticks += 1;
                 let lsn = ticket.lsn();
@@ -305,7 +308,7 @@ impl<F: PageIo> Pager<F> {
     /// Reads pages side by side ahead, as many at a time as can be begun without device work between.
     fn read_row(&self, mut wants: &[Want], images: &mut [u8]) {
         while !wants.is_empty() && !images.is_empty() {
-            let Ok(mut row) = list_of(wants.len()) else {
+            let Some(mut row) = self.got(list_of(wants.len())) else {
                 return;
             };
             wants = self.begin_row(wants, &mut row);
@@ -329,16 +332,18 @@ impl<F: PageIo> Pager<F> {
             let Ok((part, own)) = self.place(want.page) else {
                 break;
             };
-            match part.begin_ahead(own, want.noted, !row.is_empty()) {
-                Ok(Began::Reads(reading)) => row.push(reading),
-                Ok(Began::Writes(lsn, writing)) => {
+            let began = part.begin_ahead(own, want.noted, !row.is_empty());
+            match self.got(began) {
+                Some(Began::Reads(reading)) => row.push(reading),
+                Some(Began::Writes(lsn, writing)) => {
                     let victim = part.in_file(writing.page().unwrap_or_default());
-                    if self.write_out(victim, lsn, writing).is_err() {
+                    let written = self.write_out(victim, lsn, writing);
+                    if self.watch.or_tell(written).is_none() {
                         break;
                     }
                 }
-                Ok(Began::Not) if row.is_empty() => wants = &wants[1..],
-                Ok(Began::Not | Began::WouldWrite) | Err(_) => break,
+                Some(Began::Not) if row.is_empty() => wants = &wants[1..],
+                Some(Began::Not | Began::WouldWrite) | None => break,
             }
         }
         wants
@@ -348,16 +353,22 @@ impl<F: PageIo> Pager<F> {
     fn read_begun(&self, first: u64, row: Vec<Reading<'_>>, images: &mut [u8]) {
         let (count, page_size) = (row.len(), self.config().page_size);
         let images = &mut images[..count * page_size];
-        let work = Work::Pages(first, count as u64);
-        let read = within::call(self.number, work, || match count {
+        let read = || match count {
             1 => self.io.read_page(first, images),
             _ => self.io.read_pages(first, count, images),
-        });
-        if read.is_ok() {
+        };
+        let fault = |fault| PagerError::of_read(first, fault);
+        let work = Work::Read(first, count as u64);
+        if self.watch.have(work, read, fault).is_ok() {
             for (reading, image) in row.into_iter().zip(images.chunks_exact(page_size)) {
                 // Without memory for it the page is away again.
-                let _ = reading.end_ahead(image);
+                self.got(reading.end_ahead(image));
             }
         }
+    }
+
+    /// What a thread of the pager got, if it was not refused that.
+    fn got<T>(&self, got: Result<T, Error>) -> Option<T> {
+        self.watch.or_tell(got.map_err(PagerError::from))
     }
 }

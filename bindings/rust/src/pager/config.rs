@@ -1,7 +1,9 @@
 //! `PagerConfig`: the settings of a pager, and how it is divided into parts.
 use crate::core::Config;
-use crate::{Error, Result};
+use crate::observer::Observed;
+use crate::{Error, Observer, Result};
 use std::ops::Range;
+use std::sync::Arc;
 use std::thread;
 use std::time::Duration;
 
@@ -85,6 +87,7 @@ pub struct PagerConfig {
     /// of the device or the log, and keeps the pages that cannot go out, waits for others 5 milliseconds
     /// at most.
     pub pin_wait: Duration,
+    pub(super) observer: Observed,
 }
 
 /// The limits of one part.
@@ -138,7 +141,23 @@ impl PagerConfig {
             temporary: 0..0,
             notes_latches: cfg!(debug_assertions),
             pin_wait: Duration::from_secs(10),
+            observer: Observed::Not,
         }
+    }
+
+    /// Has this told what goes on in the pager. There is one at most: a later one takes its place.
+    #[must_use]
+    pub fn with_observer(mut self, observer: Arc<impl Observer + 'static>) -> PagerConfig {
+        self.observer = Observed::By(observer);
+        self
+    }
+
+    /// The same with one that the library for C has, which gives its memory back once the pager is gone.
+    #[doc(hidden)]
+    #[must_use]
+    pub fn with_lent_observer(mut self, observer: &'static dyn Observer) -> PagerConfig {
+        self.observer = Observed::ByLent(observer);
+        self
     }
 
     /// Returns the settings of a part. The first parts have one more frame, where the number does not

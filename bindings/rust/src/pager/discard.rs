@@ -1,7 +1,7 @@
 //! Pages that are dropped unwritten.
 use super::Pager;
 use super::part::{Locked, Part, State};
-use super::within::Waited;
+use super::watch::Waited;
 use crate::{Error, PageIo, PagerError, Result};
 use std::time::{Duration, Instant};
 
@@ -58,7 +58,8 @@ const SOON: Duration = Duration::from_millis(1);
 
 impl Part {
     fn discard(&self, own: u64, most: Duration) -> Result<bool> {
-        let (mut began, waited) = (None, Waited::default());
+        let waited = Waited::new(self.watch(), self.in_file(own));
+        let mut began = None;
         let mut state = self.lock();
         loop {
             if self.let_go(&mut state, own) {
@@ -78,7 +79,7 @@ impl Part {
                 return Err(Error::PagePinned);
             }
             let is_let_go = |state: &mut _| self.let_go(state, own);
-            state = self.wait_for_page(state, left, is_let_go);
+            state = self.wait_for_page(state, left, &waited, is_let_go);
         }
     }
 
@@ -88,15 +89,15 @@ impl Part {
         &'a self,
         mut state: Locked<'a>,
         own: u64,
-        waited: &Waited,
+        waited: &Waited<'_>,
     ) -> Result<Locked<'a>> {
         let Some(seat) = self.seats.of(own) else {
             return self.wait_for_work(state, own, waited);
         };
         state.firsts.begin_wait(seat, own);
         let worked = self.wait_for_work(state, own, waited);
-        let worked =
-            worked.map(|state| self.wait_for_page(state, SOON, |state| self.let_go(state, own)));
+        let is_let_go = |state: &mut _| self.let_go(state, own);
+        let worked = worked.map(|state| self.wait_for_page(state, SOON, waited, is_let_go));
         let (mut state, error) = match worked {
             Ok(state) => (state, None),
             Err(error) => (self.lock(), Some(error)),

@@ -2,6 +2,7 @@
 use super::PagerConfig;
 use super::ahead::Ahead;
 use super::aside::{Failed, Unlogged};
+use super::faults::Fault;
 use super::guards::{PageMut, PagePin, PageRef};
 use super::line::Patience;
 use super::log::Log;
@@ -9,7 +10,8 @@ use super::part::{Fix, Locked, Part, turn_of, turn_of_power};
 use super::pins::{Came, Joined, Missed, MissedAlone, PASSES};
 use super::seats::list_of;
 use super::syncs::Syncs;
-use super::within::{self, Waited, Work};
+use super::watch::{Waited, Watch};
+use super::within::Work;
 use super::work::{Reading, Writing};
 use crate::{Error, PageIo, PagerError, Result};
 use std::fmt;
@@ -168,8 +170,7 @@ pub struct Pager<F> {
     pub(super) parts: Box<[Part]>,
     /// If the number of parts is a power of two, its exponent.
     shift: Option<u32>,
-    /// A number that no other pager of this process has.
-    pub(super) number: u64,
+    pub(super) watch: Watch,
     pub(super) log: Log,
     pub(super) syncs: Syncs,
     /// The number of calls of `clean`, which begin with the parts in turn.
@@ -210,16 +211,17 @@ impl<F> Pager<F> {
     /// is; [`OutOfMemory`](Error::OutOfMemory).
     pub fn new(config: &PagerConfig, io: F) -> Result<Pager<F>> {
         config.of_part(0)?;
-        let own = NUMBERS.fetch_add(1, Ordering::Relaxed);
+        let number = NUMBERS.fetch_add(1, Ordering::Relaxed);
+        let watch = Watch::new(number, config.observer.clone());
         let mut parts = list_of(config.parts)?;
         for number in 0..config.parts {
-            parts.push(Part::new(config, number, own)?);
+            parts.push(Part::new(config, number, &watch)?);
         }
         let is_power = config.parts.is_power_of_two();
         Ok(Pager {
             parts: parts.into_boxed_slice(),
             shift: is_power.then(|| config.parts.ilog2()),
-            number: own,
+            watch,
             log: Log::default(),
             syncs: Syncs::default(),
             cleaned: AtomicUsize::default(),
@@ -332,7 +334,7 @@ impl<F: PageIo> Pager<F> {
         missed: Missed<'a>,
     ) -> Result<PageRef<'a>, PagerError> {
         let (part, own) = self.place(page)?;
-        let waited = Waited::default();
+        let waited = Waited::new(&self.watch, page);
         let pin = match part.join_read_slowly(own, missed) {
             Joined::Latched(page) => return Ok(page),
             Joined::Pinned(pin) => pin,
@@ -358,7 +360,8 @@ impl<F: PageIo> Pager<F> {
             Joined::Latched(page) => Ok(Some(page)),
             Joined::Pinned(pin) => Ok(pin.try_into_read()),
             Joined::Not => {
-                let pin = self.fix(part, own, NOT_WAITING, &Waited::default());
+                let waited = Waited::new(&self.watch, page);
+                let pin = self.fix(part, own, NOT_WAITING, &waited);
                 pin.map(PagePin::try_into_read)
             }
         }
@@ -455,7 +458,7 @@ impl<F: PageIo> Pager<F> {
     #[inline(always)]
     fn latched_alone(&self, page: u64, asked: Asked) -> Result<PageMut<'_>, PagerError> {
         let (part, own) = self.place(page)?;
-        let waited = Waited::default();
+        let waited = Waited::new(&self.watch, page);
         // A pin would be a use of the page, which is not to be used as it is where it was read ahead.
         let joined = if asked.is_new { None } else { part.join(own) };
         let pin = match joined {
@@ -474,8 +477,20 @@ impl<F: PageIo> Pager<F> {
     ) -> Result<PagePin<'a>, PagerError> {
         match part.join(own) {
             Some(pin) => Ok(pin),
-            None => self.fix(part, own, asked, &Waited::default()),
+            None => self.pin_slowly(part, own, asked),
         }
+    }
+
+    // It stands apart: else what it needs is in the way of the registers of who has the page at once.
+    #[inline(never)]
+    fn pin_slowly<'a>(
+        &'a self,
+        part: &'a Part,
+        own: u64,
+        asked: Asked,
+    ) -> Result<PagePin<'a>, PagerError> {
+        let waited = Waited::new(&self.watch, part.in_file(own));
+        self.fix(part, own, asked, &waited)
     }
 
     /// Pins a page whose pass was not out.
@@ -485,7 +500,7 @@ impl<F: PageIo> Pager<F> {
         part: &'a Part,
         own: u64,
         asked: Asked,
-        waited: &Waited,
+        waited: &Waited<'_>,
     ) -> Result<PagePin<'a>, PagerError> {
         let mut state = part.with_image(part.lock())?;
         let has_frame = asked.is_new && part.drop_ahead(&mut state, own);
@@ -503,7 +518,11 @@ impl<F: PageIo> Pager<F> {
         };
         match fixed {
             Ok(Fix::Here(pass)) => Ok(part.pinned(state, pass, Came::Here)?),
-            Ok(Fix::Read(ticket)) => self.load(part, own, asked, Reading::new(part, state, ticket)),
+            Ok(Fix::Read(ticket, evicted)) => {
+                let reading = Reading::new(part, state, ticket);
+                part.tell_evicted(evicted);
+                self.load(part, own, asked, reading)
+            }
             fixed => self.go_on(part, own, state, asked, fixed, waited),
         }
     }
@@ -518,18 +537,19 @@ impl<F: PageIo> Pager<F> {
         state: Locked<'a>,
         asked: Asked,
         mut fixed: Result<Fix>,
-        waited: &Waited,
+        waited: &Waited<'_>,
     ) -> Result<PagePin<'a>, PagerError> {
         let most = asked.may_wait.then_some(self.config.pin_wait);
-        let mut patience = Patience::new(most, asked.is_new);
+        let mut patience = Patience::new(most, asked.is_new, waited);
         let mut failed = Failed::default();
         // It is dropped first: what is set aside takes the lock as it goes.
         let mut state = state;
         loop {
             state = match fixed {
                 Ok(Fix::Here(pass)) => return Ok(part.pinned(state, pass, Came::Here)?),
-                Ok(Fix::Read(ticket)) => {
+                Ok(Fix::Read(ticket, evicted)) => {
                     let reading = Reading::new(part, state, ticket);
+                    part.tell_evicted(evicted);
                     drop(failed);
                     return self.load(part, own, asked, reading);
                 }
@@ -625,17 +645,15 @@ impl<F: PageIo> Pager<F> {
             reading.image.fill(0);
             Ok(())
         } else {
-            within::call(self.number, Work::page(page), || {
-                self.io.read_page(page, &mut reading.image)
+            let (image, noted) = (&mut reading.image, &mut reading.fault);
+            let read = || self.io.read_page(page, image);
+            self.watch.have(Work::Read(page, 1), read, |fault| {
+                *noted = Some(Fault::of(&fault));
+                PagerError::of_read(page, fault)
             })
         };
-        match read {
-            Ok(()) => Ok(reading.end()?),
-            Err(fault) => {
-                reading.fail(&fault);
-                Err(PagerError::of_read(page, fault))
-            }
-        }
+        read?;
+        Ok(reading.end()?)
     }
 
     /// Writes a page out, and ends its write-out.
@@ -656,15 +674,14 @@ impl<F: PageIo> Pager<F> {
         lsn: u64,
         writing: &mut Writing<'_>,
     ) -> Result<(), PagerError> {
-        let written = within::call(self.number, Work::page(page), || {
-            self.io.write_page(page, &mut writing.image, lsn)
-        });
-        written.map_err(|source| PagerError::Write { page, source })
+        let write = || self.io.write_page(page, &mut writing.image, lsn);
+        let fault = |source| PagerError::Write { page, source };
+        self.watch.have(Work::Write(page, 1), write, fault)
     }
 
     /// Makes the log durable, and marks it in the part, which is locked then.
     pub(super) fn reach_log<'a>(&self, part: &'a Part, lsn: u64) -> Result<Locked<'a>, PagerError> {
-        self.log.reach(&self.io, self.number, lsn)?;
+        self.log.reach(&self.io, &self.watch, lsn)?;
         let state = part.lock();
         state.pool.mark(0, self.log.durable())?;
         Ok(state)

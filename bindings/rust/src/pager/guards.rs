@@ -2,7 +2,7 @@
 use super::Pager;
 use super::part::{NOTES_AT_ONCE, Part};
 use super::seats::Seat;
-use super::within::Waited;
+use super::watch::Waited;
 use super::word::{PIN, READER, WRITER, Word};
 use crate::{Error, Result};
 use std::cell::Cell;
@@ -60,7 +60,7 @@ impl<'a, const KIND: u64> Share<'a, KIND> {
     }
 
     fn is_of<F>(&self, pager: &Pager<F>) -> bool {
-        self.part.is_of(pager.number)
+        self.part.is_of(pager.watch.pager)
     }
 
     /// The greatest LSN of the page's writes since it was read into its frame, or 0.
@@ -214,7 +214,7 @@ impl<'a> PagePin<'a> {
 
     /// Turns the pin into a latch: its share becomes that of the latch.
     #[inline]
-    fn into_latch<const KIND: u64>(self, waited: &Waited) -> Result<Share<'a, KIND>> {
+    fn into_latch<const KIND: u64>(self, waited: &Waited<'_>) -> Result<Share<'a, KIND>> {
         let Share { part, seat } = self.0;
         part.turn_pin(seat, KIND, waited)?;
         std::mem::forget(self);
@@ -235,7 +235,7 @@ impl<'a> PagePin<'a> {
     }
 
     #[inline]
-    pub(super) fn into_read(self, waited: &Waited) -> Result<PageRef<'a>> {
+    pub(super) fn into_read(self, waited: &Waited<'_>) -> Result<PageRef<'a>> {
         self.into_latch(waited).map(PageRef::new)
     }
 
@@ -245,7 +245,7 @@ impl<'a> PagePin<'a> {
     }
 
     #[inline]
-    pub(super) fn into_write(self, waited: &Waited) -> Result<PageMut<'a>> {
+    pub(super) fn into_write(self, waited: &Waited<'_>) -> Result<PageMut<'a>> {
         self.into_latch(waited).map(PageMut::new)
     }
 

@@ -2,7 +2,7 @@
 use super::part::Part;
 use super::seats::{Seat, filled};
 use super::waiters::{Place, Waiters};
-use super::within::Waited;
+use super::watch::{For, Waited};
 use super::word::PIN;
 use crate::{Error, Result};
 use std::sync::{Condvar, Mutex, MutexGuard, PoisonError};
@@ -68,13 +68,25 @@ impl Queues {
     ///
     /// # Errors
     /// Those of [`Seat::latch_or_queue`].
-    pub(super) fn wait(&self, seat: &Seat, number: usize, latch: u64) -> Result<()> {
+    pub(super) fn wait(
+        &self,
+        seat: &Seat,
+        number: usize,
+        latch: u64,
+        waited: &Waited<'_>,
+    ) -> Result<()> {
         let mut state = self.lock();
         let waiters = &mut state.of_seats[number];
         let Some(place) = seat.latch_or_queue(waiters, latch, self.now())? else {
             return Ok(());
         };
         state.waits += 1;
+        waited.sleep(For::Latch, || self.sleep(state, seat, number, place));
+        Ok(())
+    }
+
+    /// Sleeps until the latch is handed over to who has this place.
+    fn sleep(&self, mut state: MutexGuard<'_, State>, seat: &Seat, number: usize, place: Place) {
         let condition = self.condition(number, place);
         loop {
             state = condition
@@ -85,7 +97,7 @@ impl Queues {
                 seat.look(waiters, ticket, self.now());
             }
             if waiters.has_let_in(place) {
-                return Ok(());
+                return;
             }
         }
     }
@@ -114,7 +126,8 @@ impl Part {
         if seat.try_latch(latch, 0) {
             return Ok(());
         }
-        self.wait_for_latch(seat, latch, 0, &Waited::default())
+        let waited = Waited::new(self.watch(), self.in_file(seat.page()));
+        self.wait_for_latch(seat, latch, 0, &waited)
     }
 
     /// Waits for a latch in place of a pin, as the last step of a call.
@@ -122,7 +135,7 @@ impl Part {
     /// # Errors
     /// The same, where the call waits for the pin wait at most in all.
     #[inline]
-    pub(super) fn turn_pin(&self, seat: &Seat, latch: u64, waited: &Waited) -> Result<()> {
+    pub(super) fn turn_pin(&self, seat: &Seat, latch: u64, waited: &Waited<'_>) -> Result<()> {
         if seat.try_latch(latch, PIN) {
             return Ok(());
         }
@@ -135,7 +148,7 @@ impl Part {
         seat: &Seat,
         latch: u64,
         in_place_of: u64,
-        waited: &Waited,
+        waited: &Waited<'_>,
     ) -> Result<()> {
         // Who would let it go waits here.
         if self.is_own(seat) {
@@ -148,12 +161,12 @@ impl Part {
             // A thread that has the latch may wait for this one: so it does not queue.
             while !seat.try_latch(latch, in_place_of) {
                 let left = waited.left(self.pin_wait).ok_or(Error::Busy)?;
-                thread::sleep(REST.min(left));
+                waited.sleep(For::Latch, || thread::sleep(REST.min(left)));
             }
             return Ok(());
         }
         let number = self.seats.number_of(seat);
-        self.queues().wait(seat, number, latch)?;
+        self.queues().wait(seat, number, latch, waited)?;
         if in_place_of > 0 {
             seat.leave(in_place_of);
         }

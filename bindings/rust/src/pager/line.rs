@@ -1,6 +1,7 @@
 //! The line of calls that wait for a frame of a part: frames go to who has waited longest.
 use super::aside::Failed;
 use super::part::{Fix, Locked, Part, State};
+use super::watch::{For, Waited};
 use crate::{Error, Result};
 use std::sync::PoisonError;
 use std::sync::atomic::Ordering;
@@ -109,7 +110,7 @@ impl Line {
 }
 
 /// How long a call waits for a frame.
-pub(super) struct Patience {
+pub(super) struct Patience<'a> {
     /// None where it does not wait.
     most: Option<Duration>,
     began: Option<Instant>,
@@ -119,16 +120,22 @@ pub(super) struct Patience {
     pub(super) had_turn: bool,
     /// The page is made anew, whatever was read ahead of it.
     is_new: bool,
+    waited: &'a Waited<'a>,
 }
 
-impl Patience {
-    pub(super) fn new(most: Option<Duration>, is_new: bool) -> Patience {
+impl<'a> Patience<'a> {
+    pub(super) fn new(
+        most: Option<Duration>,
+        is_new: bool,
+        waited: &'a Waited<'a>,
+    ) -> Patience<'a> {
         Patience {
             most,
             began: None,
             fault_since: None,
             had_turn: false,
             is_new,
+            waited,
         }
     }
 
@@ -167,7 +174,7 @@ impl Part {
         &'a self,
         mut state: Locked<'a>,
         page: u64,
-        patience: &mut Patience,
+        patience: &mut Patience<'_>,
         failed: &Failed<'_>,
     ) -> (Locked<'a>, Result<Fix>) {
         if patience.had_turn || !state.line.is_closed() {
@@ -199,7 +206,7 @@ impl Part {
         mut state: Locked<'a>,
         ticket: u64,
         page: u64,
-        patience: &mut Patience,
+        patience: &mut Patience<'_>,
         failed: &Failed<'_>,
     ) -> (Locked<'a>, Result<Fix>) {
         loop {
@@ -217,8 +224,11 @@ impl Part {
                 return (state, Err(Error::NoVictim));
             };
             state.waits += 1;
-            let waited = self.turns(place_of(ticket)).wait_timeout(state, left);
-            (state, _) = waited.unwrap_or_else(PoisonError::into_inner);
+            let turns = self.turns(place_of(ticket));
+            let woken = patience
+                .waited
+                .sleep(For::Frame, || turns.wait_timeout(state, left));
+            (state, _) = woken.unwrap_or_else(PoisonError::into_inner);
         }
     }
 

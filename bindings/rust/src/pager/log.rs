@@ -1,4 +1,5 @@
 //! How far the log is durable, whose turn it is to make it durable further, and whether it failed.
+use super::watch::{For, Waited, Watch};
 use super::within::{self, Work};
 use crate::{LogFault, PageIo, PagerError};
 use std::mem;
@@ -87,13 +88,19 @@ impl Log {
     ///
     /// Who has the turn asks for the greatest LSN that a thread waits for. If the log does not reach so far
     /// it asks for its own alone: that of the others may never come.
-    pub(super) fn reach<F: PageIo>(&self, io: &F, pager: u64, own: u64) -> Result<(), PagerError> {
+    pub(super) fn reach<F: PageIo>(
+        &self,
+        io: &F,
+        watch: &Watch,
+        own: u64,
+    ) -> Result<(), PagerError> {
+        let waited = Waited::new(watch, own);
         let mut is_alone = false;
         let mut turn = self.turn();
         while self.durable() < own {
             turn.check()?;
             if turn.is_taken {
-                turn = self.wait_for_turn(turn, pager, own)?;
+                turn = self.wait_for_turn(turn, &waited, watch.pager, own)?;
                 continue;
             }
             turn.is_taken = true;
@@ -104,13 +111,12 @@ impl Log {
                 own.max(mem::take(&mut turn.wanted))
             };
             drop(turn);
-            match self.make_durable(io, pager, wanted) {
-                Ok(()) => {}
-                Err(LogFault::Lost(source)) => return Err(PagerError::Log { lsn: own, source }),
-                Err(LogFault::NotYet) if wanted == own => {
-                    return Err(PagerError::LogNotYet { lsn: own });
+            match self.make_durable(io, watch, wanted) {
+                Err(PagerError::LogNotYet { .. }) if wanted != own => is_alone = true,
+                Err(PagerError::Log { source, .. }) => {
+                    return Err(PagerError::Log { lsn: own, source });
                 }
-                Err(LogFault::NotYet) => is_alone = true,
+                made => made?,
             }
             turn = self.turn();
         }
@@ -121,26 +127,31 @@ impl Log {
     fn wait_for_turn<'a>(
         &'a self,
         mut turn: MutexGuard<'a, Turn>,
+        waited: &Waited<'_>,
         pager: u64,
         own: u64,
     ) -> Result<MutexGuard<'a, Turn>, PagerError> {
-        if within::is_within(pager, |work| work == Work::Log) {
+        if within::is_within(pager, |work| matches!(work, Work::Log(_))) {
             return Err(PagerError::LogNotYet { lsn: own });
         }
         turn.wanted = turn.wanted.max(own);
         turn.waits += 1;
-        let waited = self.ended.wait(turn);
-        Ok(waited.unwrap_or_else(PoisonError::into_inner))
+        let woken = waited.sleep(For::Log, || self.ended.wait(turn));
+        Ok(woken.unwrap_or_else(PoisonError::into_inner))
     }
 
     /// Has the engine make the log durable, in this thread's turn, which ends here.
-    fn make_durable<F: PageIo>(&self, io: &F, pager: u64, lsn: u64) -> Result<(), LogFault> {
+    fn make_durable<F: PageIo>(&self, io: &F, watch: &Watch, lsn: u64) -> Result<(), PagerError> {
         let mut taken = Taken {
             log: self,
             is_lost: true,
         };
-        let made = within::call(pager, Work::Log, || io.make_log_durable(lsn));
-        taken.is_lost = matches!(made, Err(LogFault::Lost(_)));
+        let make = || io.make_log_durable(lsn);
+        let made = watch.have(Work::Log(lsn), make, |fault| match fault {
+            LogFault::Lost(source) => PagerError::Log { lsn, source },
+            LogFault::NotYet => PagerError::LogNotYet { lsn },
+        });
+        taken.is_lost = matches!(made, Err(PagerError::Log { .. }));
         made?;
         self.mark(lsn);
         Ok(())

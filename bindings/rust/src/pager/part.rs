@@ -1,7 +1,7 @@
 //! A part: one proved pool under a lock, with what its pins, latches and waiting threads need.
 use super::PagerConfig;
 use super::away::Away;
-use super::faults::{Fault, Faults};
+use super::faults::Faults;
 use super::firsts::Firsts;
 use super::kept::Kept;
 use super::latch::Queues;
@@ -9,7 +9,7 @@ use super::line::{GROUPS, Line};
 use super::own;
 use super::places::Places;
 use super::seats::{FreeSeats, Seat, Seats, filled, list_of};
-use super::within::{self, Waited};
+use super::watch::Watch;
 use crate::core::{Config, Fixed, Flushed, PageGuard, Pass, Pool, ReadTicket, WriteTicket};
 use crate::image::Image;
 use crate::{Error, Result, UnsavedPage};
@@ -51,23 +51,22 @@ pub(super) struct Part {
     temporary: Range<u64>,
     /// So many ticks a page that was read ahead waits for its use.
     pub(super) ahead: u64,
-    /// The number of the pager.
-    pager: u64,
     pub(super) pin_wait: Duration,
-    locked: Apart,
+    pub(super) locked: Apart,
 }
 
-/// What changes often, on other lines.
+/// What changes often, and what few calls need, on other lines.
 #[repr(align(128))]
-struct Apart {
+pub(super) struct Apart {
     state: Mutex<State>,
     queues: Queues,
     /// The device work on a page has ended, which has the place of its number.
-    worked: [Condvar; PLACES],
+    pub(super) worked: [Condvar; PLACES],
     /// It is the turn of a group in line for a frame, and one may be had; or its page is in a frame.
-    turns: [Condvar; GROUPS],
+    pub(super) turns: [Condvar; GROUPS],
     /// A page was unpinned, for threads that wait for one page alone, all of which are told.
-    let_go: Condvar,
+    pub(super) let_go: Condvar,
+    watch: Watch,
 }
 
 pub(super) struct State {
@@ -88,7 +87,7 @@ pub(super) struct State {
     /// The ticks of calls that were refused since all pages were pinned. Later calls use them.
     pub(super) unused_ticks: u64,
     /// The number of threads at each place that sleep until the device work on their page has ended.
-    for_work: [usize; PLACES],
+    pub(super) for_work: [usize; PLACES],
     pub(super) faults: Faults,
     /// The pins that were made without asking the pool, as far as they were counted; and the
     /// references that the pool was asked for afterwards, which are hits to it.
@@ -110,7 +109,8 @@ pub(super) type Locked<'a> = MutexGuard<'a, State>;
 /// What a fix needs while the lock is open.
 pub(super) enum Fix {
     Here(Pass),
-    Read(ReadTicket),
+    /// With the page that has left its frame for it, if one has.
+    Read(ReadTicket, Option<u64>),
     Write(WriteTicket),
 }
 
@@ -137,7 +137,7 @@ pub(super) const FEW_PAGES: usize = 64;
 const PURGE_TICKS: u64 = 16;
 
 impl Part {
-    pub(super) fn new(config: &PagerConfig, number: usize, pager: u64) -> Result<Part> {
+    pub(super) fn new(config: &PagerConfig, number: usize, watch: &Watch) -> Result<Part> {
         let (parts, pin_wait) = (config.parts as u64, config.pin_wait);
         let (tells_each, temporary) = (config.tells_each_pin, config.temporary.clone());
         let notes = config.notes_latches;
@@ -157,7 +157,6 @@ impl Part {
             parts,
             temporary,
             ahead: config.correlated.max(config.frames as u64 / 4),
-            pager,
             pin_wait,
             locked: Apart {
                 state: Mutex::new(state),
@@ -165,13 +164,20 @@ impl Part {
                 worked: [const { Condvar::new() }; PLACES],
                 turns: [const { Condvar::new() }; GROUPS],
                 let_go: Condvar::new(),
+                watch: watch.clone(),
             },
         })
     }
 
+    /// The number of the pager, and who is told what goes on.
+    #[inline]
+    pub(super) fn watch(&self) -> &Watch {
+        &self.locked.watch
+    }
+
     /// Whether it is a part of the pager with this number.
     pub(super) fn is_of(&self, pager: u64) -> bool {
-        self.pager == pager
+        self.watch().pager == pager
     }
 
     /// Returns the number in the file of a page of this part.
@@ -229,78 +235,6 @@ impl Part {
         Ok(state)
     }
 
-    /// Sleeps until the device work on a page has ended, or some on another page that has its place.
-    ///
-    /// # Errors
-    /// [`Error::Busy`] in a function of the engine which does that work itself, or which another
-    /// thread waits for: there a call waits for the pin wait at most, however often it is woken.
-    pub(super) fn wait_for_work<'a>(
-        &self,
-        mut state: Locked<'a>,
-        page: u64,
-        waited: &Waited,
-    ) -> Result<Locked<'a>> {
-        let page_in_file = self.in_file(page);
-        if within::is_within(self.pager, |work| work.has_page(page_in_file)) {
-            return Err(Error::Busy);
-        }
-        let left = match self.is_within() {
-            true => Some(waited.left(self.pin_wait).ok_or(Error::Busy)?),
-            false => None,
-        };
-        let place = place_of(page);
-        let worked = &self.locked.worked[place];
-        state.for_work[place] += 1;
-        state.waits += 1;
-        state = match left {
-            Some(left) => {
-                let woken = worked.wait_timeout(state, left);
-                woken.unwrap_or_else(PoisonError::into_inner).0
-            }
-            None => worked.wait(state).unwrap_or_else(PoisonError::into_inner),
-        };
-        state.for_work[place] -= 1;
-        Ok(state)
-    }
-
-    /// The same until a read of the page has ended. It also returns the fault of one that failed, if that began
-    /// after this call came to wait and the page is not in a frame since.
-    pub(super) fn wait_for_read<'a>(
-        &self,
-        state: Locked<'a>,
-        page: u64,
-        waited: &Waited,
-    ) -> Result<(Locked<'a>, Option<Fault>)> {
-        let begun = waited.begun(state.faults.begun());
-        let state = self.wait_for_work(state, page, waited)?;
-        let is_away = self.seats.of(page).is_none();
-        let fault = is_away.then(|| state.faults.since(page, begun));
-        Ok((state, fault.flatten()))
-    }
-
-    /// Sleeps until some page is unpinned, or for at most `most`. It does not where what is waited for has
-    /// come: that is asked once other threads see that one waits.
-    pub(super) fn wait_for_page<'a>(
-        &self,
-        mut state: Locked<'a>,
-        most: Duration,
-        has_come: impl FnOnce(&mut State) -> bool,
-    ) -> Locked<'a> {
-        self.waiting.fetch_add(1, Ordering::SeqCst);
-        if !has_come(&mut state) {
-            state.waits += 1;
-            let waited = self.locked.let_go.wait_timeout(state, most);
-            (state, _) = waited.unwrap_or_else(PoisonError::into_inner);
-        }
-        self.waiting.fetch_sub(1, Ordering::SeqCst);
-        state
-    }
-
-    /// Where the group with this place in line sleeps.
-    pub(super) fn turns(&self, place: usize) -> &Condvar {
-        &self.locked.turns[place]
-    }
-
     /// Whether threads wait for a frame, or for a page to be unpinned.
     pub(super) fn has_waiting(&self) -> bool {
         self.waiting.load(Ordering::SeqCst) % NOTES != 0
@@ -314,83 +248,22 @@ impl Part {
 
     /// Whether this thread has a latch of a seat's page, as far as latches are noted.
     pub(super) fn is_own(&self, seat: &Seat) -> bool {
-        self.notes && own::has(self.pager, seat)
+        self.notes && own::has(self.watch().pager, seat)
     }
 
     /// Notes that this thread has a latch of a seat's page.
     #[inline]
     pub(super) fn note_latch(&self, seat: &Seat) {
         if self.notes {
-            own::note(self.pager, seat);
+            own::note(self.watch().pager, seat);
         }
     }
 
     /// Notes that this thread has let it go.
     pub(super) fn forget_latch(&self, seat: &Seat) {
         if self.notes {
-            own::forget(self.pager, seat);
+            own::forget(self.watch().pager, seat);
         }
-    }
-
-    /// Wakes who is first in line for a frame, if anybody is.
-    pub(super) fn wake_first(&self, state: &State) {
-        if let Some(place) = state.line.first_place() {
-            self.wake_turn(place, state.aside > 0);
-        }
-    }
-
-    /// Wakes one call of a group in line. But all where some may have to be refused: while pages are set
-    /// aside, those that did so are in the first group.
-    fn wake_turn(&self, place: usize, has_aside: bool) {
-        match has_aside {
-            true => self.turns(place).notify_all(),
-            false => self.turns(place).notify_one(),
-        }
-    }
-
-    /// Wakes the calls in line that want a page which has come into a frame.
-    pub(super) fn wake_in_line(&self, state: &State, page: u64) {
-        for place in state.line.places_of(page) {
-            self.turns(place).notify_all();
-        }
-    }
-
-    /// Unlocks the part, and wakes who is first in line for a frame, and all that wait for one page. What
-    /// has happened did so under the lock, or the lock was taken since.
-    pub(super) fn wake_for_frame(&self, state: Locked<'_>) {
-        if !self.has_waiting() {
-            return;
-        }
-        let (first, has_aside) = (state.line.first_place(), state.aside > 0);
-        drop(state);
-        if let Some(place) = first {
-            self.wake_turn(place, has_aside);
-        }
-        self.locked.let_go.notify_all();
-    }
-
-    /// Unlocks the part, and wakes the threads that wait for the end of the device work on a page.
-    pub(super) fn wake(&self, state: Locked<'_>, page: u64) {
-        let has_sleepers = state.has_sleepers(page);
-        self.wake_for_frame(state);
-        self.wake_for_work(page, has_sleepers);
-    }
-
-    /// The same with the lock kept, of a page that nobody waits for alone.
-    pub(super) fn wake_under(&self, state: &State, page: u64) {
-        self.wake_for_work(page, state.has_sleepers(page));
-        self.wake_first(state);
-    }
-
-    pub(super) fn wake_for_work(&self, page: u64, has_sleepers: bool) {
-        if has_sleepers {
-            self.locked.worked[place_of(page)].notify_all();
-        }
-    }
-
-    /// Whether this thread is in a function of the engine that the pager called.
-    pub(super) fn is_within(&self) -> bool {
-        within::is_within(self.pager, |_| true)
     }
 
     /// The queues for the latches of this part's pages.
@@ -560,7 +433,7 @@ impl Part {
                     state.free.take(&self.seats, gone, seat, last);
                     state.away.leave();
                 }
-                Fix::Read(ticket)
+                Fix::Read(ticket, evicted)
             }
             Fixed::WriteFirst(ticket) => Fix::Write(ticket),
         };

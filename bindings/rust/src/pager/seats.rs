@@ -40,7 +40,7 @@
 //!   under a share. So are `touched` and the part's `now` (Relaxed), on which no safety relies. Who uses a page
 //!   notes that in `touched` before it lets go: so it is seen once OUT is gone.
 //! - **Order of locks:** a latch, then the part's lock, then the mutex of the queues. Nobody waits for a
-//!   latch, sleeps for anything else than the lock itself, or calls the engine with the part's lock.
+//!   latch, sleeps for anything else than the lock itself, or calls the engine or its observer with the part's lock.
 //! - **Tickets.** Who has tickets of pages, to read them or write them out, waits for no latch, log, page or
 //!   frame, and begins no other device work, until they have ended: it takes the locks of parts alone, for
 //!   more tickets of a row. Others may wait for these tickets with latches.

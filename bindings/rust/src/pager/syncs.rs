@@ -1,4 +1,5 @@
 //! Syncs of the device: one at a time, for all threads that came before it began.
+use super::watch::{For, Waited, Watch};
 use super::within::{self, Work};
 use crate::{PageIo, PagerError};
 use std::io;
@@ -48,21 +49,21 @@ impl Syncs {
         self.lock().check()
     }
 
-    /// Has the device synced for the pager with this number, by a sync that begins after this call: its own
-    /// or another's. One thread syncs at a time: a sync that goes well beside one that fails does not say
+    /// Has the device synced, by a sync that begins after this call: its own or another's. One thread syncs at a time: a sync that goes well beside one that fails does not say
     /// that all was kept.
-    pub(super) fn sync<F: PageIo>(&self, io: &F, pager: u64) -> Result<(), PagerError> {
-        if within::is_within(pager, |work| work == Work::Sync) {
+    pub(super) fn sync<F: PageIo>(&self, io: &F, watch: &Watch) -> Result<(), PagerError> {
+        if within::is_within(watch.pager, |work| work == Work::Sync) {
             let why = "sync called for a checkpoint, which needs another sync";
             let source = io::Error::new(io::ErrorKind::Deadlock, why);
             return Err(PagerError::Sync { source });
         }
+        let waited = Waited::new(watch, 0);
         let mut turns = self.lock();
         let wanted = turns.begun + 1;
         while turns.is_taken && turns.done < wanted {
             turns.waits += 1;
-            let waited = self.ended.wait(turns);
-            turns = waited.unwrap_or_else(PoisonError::into_inner);
+            let woken = waited.sleep(For::Sync, || self.ended.wait(turns));
+            turns = woken.unwrap_or_else(PoisonError::into_inner);
         }
         turns.check()?;
         if turns.done >= wanted {
@@ -75,9 +76,10 @@ impl Syncs {
             syncs: self,
             went_well: false,
         };
-        let synced = within::call(pager, Work::Sync, || io.sync());
+        let fault = |source| PagerError::Sync { source };
+        let synced = watch.have(Work::Sync, || io.sync(), fault);
         syncing.went_well = synced.is_ok();
-        synced.map_err(|source| PagerError::Sync { source })
+        synced
     }
 }
 

@@ -5,7 +5,6 @@ use super::part::{FEW_PAGES, Locked, Part};
 use super::work::Writing;
 use crate::image::Image;
 use crate::{Error, PageIo, PagerError, Result, Totals, UnsavedPage};
-use std::panic::{AssertUnwindSafe, catch_unwind};
 use std::sync::atomic::Ordering;
 use std::sync::{Arc, Condvar, Mutex, PoisonError};
 use std::thread::{self, JoinHandle};
@@ -249,7 +248,8 @@ impl End {
 impl<F: PageIo + Send + Sync + 'static> Pager<F> {
     /// Starts a thread that writes out at most `most` pages, rests for a while, and begins again,
     /// as [`clean`](Pager::clean) does. A page that cannot be written out stays unsaved, and
-    /// is tried again: a call for which no other page can make way gets the fault.
+    /// is tried again: a call for which no other page can make way gets the fault. Each fault, and a panic
+    /// of the engine's functions, is told to an [`Observer`](crate::Observer), if there is one.
     ///
     /// # Errors
     /// Where the system has no thread for it.
@@ -257,8 +257,8 @@ impl<F: PageIo + Send + Sync + 'static> Pager<F> {
         let end = Arc::new(End::default());
         let (pager, ends) = (Arc::clone(self), Arc::clone(&end));
         let clean = move || {
-            // The engine's code may panic, and is called again all the same.
-            let _ = catch_unwind(AssertUnwindSafe(|| pager.clean(most)));
+            let cleaned = pager.watch.go_on(|| pager.clean(most));
+            cleaned.and_then(|cleaned| pager.watch.or_tell(cleaned));
         };
         let work = move || {
             while !ends.rest(Duration::ZERO) {

@@ -2,49 +2,30 @@
 //! what that function is to do.
 use std::cell::Cell;
 use std::ptr;
-use std::time::{Duration, Instant};
 
 /// What a pager has the engine do.
 #[derive(Clone, Copy, PartialEq, Eq)]
 pub(super) enum Work {
-    /// Read so many pages side by side, from this one on, or write them out.
-    Pages(u64, u64),
-    Log,
+    /// Read so many pages side by side, from this one on.
+    Read(u64, u64),
+    /// Write them out.
+    Write(u64, u64),
+    /// Make the log durable up to this LSN.
+    Log(u64),
     Sync,
+    /// Be told what goes on.
+    Tell,
 }
 
 impl Work {
-    pub(super) fn page(page: u64) -> Work {
-        Work::Pages(page, 1)
-    }
-
     /// Whether it is to read this page, or to write it out.
     pub(super) fn has_page(self, page: u64) -> bool {
-        matches!(self, Work::Pages(first, count) if page >= first && page - first < count)
-    }
-}
-
-/// When a call first had to wait.
-#[derive(Default)]
-pub(super) struct Waited {
-    since: Cell<Option<Instant>>,
-    begun: Cell<Option<u64>>,
-}
-
-impl Waited {
-    /// Returns what is left of so long a time since then. None where nothing is. So all that a call waits for
-    /// in a function of the engine has one end.
-    pub(super) fn left(&self, most: Duration) -> Option<Duration> {
-        let since = self.since.get().unwrap_or_else(Instant::now);
-        self.since.set(Some(since));
-        most.checked_sub(since.elapsed()).filter(|it| !it.is_zero())
-    }
-
-    /// Returns how many reads of the part had begun when the call first waited for one, if that is now so many.
-    pub(super) fn begun(&self, now: u64) -> u64 {
-        let begun = self.begun.get().unwrap_or(now);
-        self.begun.set(Some(begun));
-        begun
+        match self {
+            Work::Read(first, count) | Work::Write(first, count) => {
+                page >= first && page - first < count
+            }
+            Work::Log(_) | Work::Sync | Work::Tell => false,
+        }
     }
 }
 

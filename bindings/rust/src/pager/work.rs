@@ -18,7 +18,7 @@ pub(super) struct Reading<'a> {
     /// Its number among the reads of the part, and the fault with which it ends then, for those that waited as it
     /// began. A read ahead has none for them.
     number: u64,
-    fault: Option<Fault>,
+    pub(super) fault: Option<Fault>,
 }
 
 impl<'a> Reading<'a> {
@@ -87,11 +87,6 @@ impl<'a> Reading<'a> {
             part.wake_in_line(&state, page);
         }
         Ok((state, pass))
-    }
-
-    /// Ends the read, which failed, with this fault.
-    pub(super) fn fail(mut self, fault: &ReadFault) {
-        self.fault = Some(Fault::of(fault));
     }
 }
 

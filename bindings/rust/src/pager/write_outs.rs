@@ -4,7 +4,8 @@ use super::guards::PageRef;
 use super::log::NotReached;
 use super::part::{FEW_PAGES, Part};
 use super::seats::list_of;
-use super::within::{self, Waited, Work};
+use super::watch::Waited;
+use super::within::Work;
 use super::work::Writing;
 use crate::image::Image;
 use crate::{Error, PageIo, PagerError, Result, UnsavedPage};
@@ -170,9 +171,9 @@ impl<F: PageIo> Pager<F> {
         not_reached: &mut NotReached,
     ) -> Result<Option<(u64, Writing<'_>)>, PagerError> {
         let (part, own) = self.place(page)?;
+        let waited = Waited::new(&self.watch, page);
         let mut latch: Option<PageRef<'_>> = None;
         let (mut rounds, mut began) = (0, None);
-        let waited = Waited::default();
         loop {
             let mut state = part.with_image(part.lock())?;
             let began = *began.get_or_insert(state.firsts.begun());
@@ -219,7 +220,7 @@ impl<F: PageIo> Pager<F> {
     /// Makes the log durable up to this LSN, but asks it for nothing that it could not do in this call.
     fn reach_once(&self, lsn: u64, not_reached: &mut NotReached) -> Result<(), PagerError> {
         not_reached.check(&self.log, lsn)?;
-        let reached = self.log.reach(&self.io, self.number, lsn);
+        let reached = self.log.reach(&self.io, &self.watch, lsn);
         reached.inspect_err(|fault| not_reached.note(fault))
     }
 
@@ -356,18 +357,17 @@ impl<F: PageIo> Pager<F> {
     fn write_run(&self, mut run: Run<'_>) -> Result<(), PagerError> {
         let (first, count) = (run.first, run.pages.len());
         let images = &mut run.images[..count * run.page_size];
-        let work = Work::Pages(first, count as u64);
-        let written = within::call(self.number, work, || match count {
+        let write = || match count {
             1 => self.io.write_page(first, images, run.lsns[0]),
             _ => self.io.write_pages(first, images, &run.lsns),
-        });
-        match written {
-            Ok(()) => Ok(run.end()?),
-            Err(source) => Err(PagerError::Write {
-                page: first,
-                source,
-            }),
-        }
+        };
+        let fault = |source| {
+            let page = first;
+            PagerError::Write { page, source }
+        };
+        self.watch
+            .have(Work::Write(first, count as u64), write, fault)?;
+        Ok(run.end()?)
     }
 
     /// Writes out each page that was unsaved when the call began, in the order of the file, as
@@ -412,7 +412,7 @@ impl<F: PageIo> Pager<F> {
         self.check()?;
         // Before the sync: what goes out during it may not be kept by it.
         let redo = self.redo_from();
-        self.syncs.sync(&self.io, self.number)?;
+        self.syncs.sync(&self.io, &self.watch)?;
         Ok(redo)
     }
 

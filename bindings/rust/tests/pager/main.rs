@@ -16,6 +16,7 @@ mod log;
 mod lost;
 mod natural;
 mod nested;
+mod observer;
 mod others;
 mod overlap;
 mod own;
