@@ -348,7 +348,7 @@ extern "C" fn fix_otherwise(own: &'static Pager, page: u64, how: u32, out: Place
             TRY_PINNED => kept(own.try_pin(page), Held::Pinned, page, out),
             TRY_SHARED => kept(had(own.try_read(page)), Held::Shared, page, out),
             TRY_EXCLUSIVE => kept(had(own.try_write(page)), Held::Exclusive, page, out),
-            _ => Err(refused_at(page, Error::BadSettings)),
+            _ => Err(refusal_of(HZ_BAD_SETTINGS, page)),
         }
     })
 }
@@ -435,7 +435,7 @@ fn put_own(
     lsn: u64,
 ) -> Outcome {
     if len > page.bytes().len() {
-        return Err(refused_at(page.page(), Error::OutOfPage));
+        return Err(refusal_of(HZ_OUT_OF_PAGE, page.page()));
     }
     let done = with_scratch(len, |copy| {
         // SAFETY: so many bytes are there, and the scratch is other memory.

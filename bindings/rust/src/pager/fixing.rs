@@ -205,9 +205,8 @@ impl<F> Pager<F> {
     /// Makes a pager with empty frames.
     ///
     /// # Errors
-    /// [`BadSettings`](Error::BadSettings) where the number of parts or another setting is out of
-    /// its limits; [`BadGeometry`](Error::BadGeometry) where the number of pages or the page size
-    /// is; [`OutOfMemory`](Error::OutOfMemory).
+    /// [`BadSetting`](Error::BadSetting) where a setting is out of its limits;
+    /// [`OutOfMemory`](Error::OutOfMemory).
     pub fn new(config: &PagerConfig, io: F) -> Result<Pager<F>> {
         config.of_part(0)?;
         let own = NUMBERS.fetch_add(1, Ordering::Relaxed);
@@ -257,7 +256,7 @@ impl<F> Pager<F> {
     #[inline]
     pub(super) fn place(&self, page: u64) -> Result<(&Part, u64)> {
         if page >= self.config.pages {
-            return Err(Error::OutOfPage);
+            return Err(Error::NoSuchPage { page });
         }
         Ok(self.place_of_any(page))
     }
@@ -292,7 +291,7 @@ impl<F: PageIo> Pager<F> {
     /// [`PagerError::Read`] where the device failed. [`PagerError::Write`], [`PagerError::Log`],
     /// [`PagerError::LogNotYet`] and [`PagerError::LogLost`] where no page could make way, since the device or
     /// the log failed for one of them, which is told.
-    /// [`PagerError::Refused`] with [`OutOfPage`](Error::OutOfPage) where the file has
+    /// [`PagerError::Refused`] with [`NoSuchPage`](Error::NoSuchPage) where the file has
     /// no such page; [`NoVictim`](Error::NoVictim) where all possible victims were pinned for too
     /// long; [`PagerError::WrongPage`] where another page was found in the page's place, and
     /// [`PagerError::Spoilt`] where it is torn or spoilt;
