@@ -75,8 +75,8 @@ pub use fault::{LogFault, PagerError, ReadFault};
 pub use files::{Device, FileOptions, FilePages, Layout, Log, NoLog, OpenError, WithLog};
 pub use io::PageIo;
 pub use pager::{
-    Cleaner, OwnedMut, OwnedPin, OwnedRef, PageMut, PagePin, PageRef, Pager, PagerConfig, Readers,
-    Stats,
+    Cleaner, NotClosed, OwnedMut, OwnedPin, OwnedRef, PageMut, PagePin, PageRef, Pager,
+    PagerConfig, Readers, Stats,
 };
 #[doc(hidden)]
 pub use pager::{Left, Missed, MissedAlone};

@@ -2,6 +2,7 @@
 use super::PagerConfig;
 use super::ahead::Ahead;
 use super::aside::{Failed, Unlogged};
+use super::closing::Parts;
 use super::guards::{PageMut, PagePin, PageRef};
 use super::line::Patience;
 use super::log::Log;
@@ -162,10 +163,12 @@ use std::sync::atomic::{AtomicU64, AtomicUsize, Ordering};
 /// and those whose records were durable before go out.
 ///
 /// Where the device or the log panics, so does the call. A later one chooses another victim: the next one,
-/// or with a correlated period of 0 one after up to K such calls. Where the pager is dropped, pages that
-/// were not written out are lost.
+/// or with a correlated period of 0 one after up to K such calls.
+///
+/// [`close`](Pager::close) saves all, and gives the device and log back. Where the pager is dropped, pages that
+/// were not written out are lost: in a program with debug assertions a line on standard error says so.
 pub struct Pager<F> {
-    pub(super) parts: Box<[Part]>,
+    pub(super) parts: Parts,
     /// If the number of parts is a power of two, its exponent.
     shift: Option<u32>,
     /// A number that no other pager of this process has.
@@ -216,7 +219,7 @@ impl<F> Pager<F> {
         }
         let is_power = config.parts.is_power_of_two();
         Ok(Pager {
-            parts: parts.into_boxed_slice(),
+            parts: Parts::new(parts),
             shift: is_power.then(|| config.parts.ilog2()),
             number: own,
             log: Log::default(),
@@ -238,8 +241,10 @@ impl<F> Pager<F> {
         &self.io
     }
 
-    /// Gives the device and log back. Pages that were not written out are lost.
-    pub fn into_io(self) -> F {
+    /// Gives the device and log back. Pages that were not written out are lost: [`close`](Pager::close) saves
+    /// them.
+    pub fn into_io(mut self) -> F {
+        self.parts.be_quiet();
         self.io
     }
 

@@ -314,6 +314,23 @@ impl AsRef<[u8]> for PageRef<'_> {
     }
 }
 
+/// The bytes as they are: they are changed by [`put`](PageMut::put) and what is like it alone.
+impl Deref for PageMut<'_> {
+    type Target = [u8];
+
+    #[inline]
+    fn deref(&self) -> &[u8] {
+        self.bytes()
+    }
+}
+
+impl AsRef<[u8]> for PageMut<'_> {
+    #[inline]
+    fn as_ref(&self) -> &[u8] {
+        self
+    }
+}
+
 impl<'a> PageMut<'a> {
     #[inline]
     pub(super) fn new(share: Share<'a, WRITER>) -> PageMut<'a> {

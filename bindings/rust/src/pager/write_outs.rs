@@ -34,7 +34,7 @@ impl<F> Pager<F> {
     /// The same of those of which is so what is asked of the least LSN with a record.
     fn unsaved_of(&self, is_meant: impl Fn(Option<u64>) -> bool) -> Result<Vec<UnsavedPage>> {
         let mut pages = list_of(0)?;
-        for part in &self.parts {
+        for part in self.parts.iter() {
             let mut from = Some(0);
             while let Some(first) = from {
                 // Memory is asked for with the lock open.

@@ -2,6 +2,7 @@
 mod ahead;
 mod by_age;
 mod calls;
+mod closing;
 mod device;
 mod discard;
 mod edits;

@@ -1,8 +1,10 @@
 //! What each call says where it cannot be done, and that nothing is lost by it.
 use crate::device::{Asked, Device, Fate, PAGES, SIZE, config, pager, put, with_an_unsaved_page};
-use hojzmated::{Error, Pager, PagerConfig, PagerError};
+use hojzmated::{Error, Pager, PagerConfig, PagerError, ReadFault};
 use std::error::Error as _;
+use std::io::{self, ErrorKind};
 use std::panic::{AssertUnwindSafe, catch_unwind};
+use std::sync::Arc;
 use std::time::{Duration, Instant};
 
 type Call = fn(&Pager<Device>) -> Result<(), PagerError>;
@@ -45,6 +47,59 @@ fn bytes_that_the_page_has_not() {
     drop(page);
     pager.flush(1).unwrap();
     assert_eq!(pager.io().asked().last(), Some(&Asked::Write(1, 7, 1)));
+}
+
+// As an error of the system it has the kind of the device's own fault, or that of a refusal, and is within.
+#[test]
+fn errors_of_the_system() {
+    let pager = pager(1);
+    pager.io().ends_as(|asked| match asked {
+        Asked::Read(_) => Err(ReadFault::Device(ErrorKind::TimedOut.into())),
+        _ => Ok(()),
+    });
+    let error = io::Error::from(pager.read(1).map(drop).unwrap_err());
+    assert_eq!(error.kind(), ErrorKind::TimedOut);
+    assert_eq!(error.to_string(), "page 1 could not be read");
+    let source = error.source().and_then(|it| it.downcast_ref());
+    assert_eq!(source.map(io::Error::kind), Some(ErrorKind::TimedOut));
+    let within = error.downcast::<PagerError>().unwrap();
+    assert!(matches!(within, PagerError::Read { page: 1, .. }));
+    // By `?`.
+    let ends = || -> io::Result<()> {
+        pager.write(PAGES)?.put(0, &[1], 1)?;
+        Ok(())
+    };
+    assert_eq!(ends().unwrap_err().kind(), ErrorKind::InvalidInput);
+    for (error, kind) in [
+        (PagerError::WrongPage { page: 1 }, ErrorKind::InvalidData),
+        (PagerError::Spoilt { page: 1 }, ErrorKind::InvalidData),
+        (PagerError::SyncFailedBefore, ErrorKind::Other),
+        (Error::OutOfMemory.into(), ErrorKind::OutOfMemory),
+        (Error::NoVictim.into(), ErrorKind::ResourceBusy),
+        (Error::Deadlock.into(), ErrorKind::Deadlock),
+        (bad("k").into(), ErrorKind::InvalidInput),
+        (Error::ClockFull.into(), ErrorKind::Other),
+    ] {
+        assert_eq!(io::Error::from(error).kind(), kind);
+    }
+    assert_eq!(io::Error::from(Error::Busy).kind(), ErrorKind::ResourceBusy);
+}
+
+// A page that is had alone is looked at as one that is shared.
+#[test]
+fn bytes_of_a_page_alone() {
+    fn sum(bytes: impl AsRef<[u8]>) -> u64 {
+        bytes.as_ref().iter().map(|it| u64::from(*it)).sum()
+    }
+    let pager = Arc::new(pager(1));
+    let mut page = pager.write(1).unwrap();
+    page.put(2, &[3, 4], 0).unwrap();
+    assert_eq!((page.len(), &page[1..5]), (SIZE, &[0, 3, 4, 0][..]));
+    assert_eq!(sum(page), 7);
+    let mut page = pager.write_owned(1).unwrap();
+    page.put(0, &[1], 0).unwrap();
+    assert_eq!((page.len(), &page[..4]), (SIZE, &[1, 0, 3, 4][..]));
+    assert_eq!(sum(page), 8);
 }
 
 // By whichever call. Once a guard is dropped another one is had, and once all are the page is as any.
@@ -102,7 +157,8 @@ fn numbers_of_parts() {
 
 #[test]
 fn settings_out_of_their_limits() {
-    let changes: [(&str, fn(&mut PagerConfig)); 7] = [
+    type Change = fn(&mut PagerConfig);
+    let changes: [(&str, Change); 7] = [
         ("frames", |it| it.frames = 0),
         ("frames", |it| it.frames = 65_537),
         ("frames", |it| it.frames = usize::MAX),
