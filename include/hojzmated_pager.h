@@ -206,6 +206,7 @@ typedef struct hz_pager_stats {
  *     HZ_VERSION_MISMATCH
  *     HZ_OUT_OF_MEMORY
  */
+HZ_MUST_CHECK
 uint16_t hz_pager_new(const hz_pager_config *config, const hz_io *io, hz_pager *pager);
 
 /* Makes a pager over a page file, without a log: each LSN counts as durable. The file is open for reading and
@@ -233,6 +234,7 @@ uint16_t hz_pager_new(const hz_pager_config *config, const hz_io *io, hz_pager *
  * file, as -1 is not: the fault has no page, and the errno that fstat gives; HZ_NOT_A_FILE; HZ_FILE_READ_ONLY;
  * HZ_FILE_IN_USE; HZ_BAD_LENGTH; HZ_WRITE_FAILED, without a page, where the file cannot be made longer: it may have
  * got some pages. */
+HZ_MUST_CHECK
 uint16_t hz_pager_new_file(const hz_pager_config *config, int fd, int format, hz_pager *pager);
 
 /* Frees a pager, whose handle has none then. It writes nothing out: pages that are unsaved are lost, so make a
@@ -256,17 +258,20 @@ uint16_t hz_pager_free(hz_pager *pager);
  *                       tried. If other pages are pinned, the call waits for them before, for 5 ms at most
  *     HZ_READ_FAILED, HZ_WRONG_PAGE, HZ_CLOCK_FULL, HZ_OUT_OF_MEMORY
  */
+HZ_MUST_CHECK
 uint16_t hz_pager_fix(const hz_pager *pager, uint64_t page, uint32_t how, hz_ref *ref);
 
 /* Fixes a page that was never written, under its exclusive latch: its bytes are zeros, and nothing is read. If it is in
  * a frame, it is as it is there. Put something there: until then the page counts as saved, and may leave its frame
  * without being written out. Refused: as hz_pager_fix, but for HZ_BUSY and HZ_READ_FAILED. */
+HZ_MUST_CHECK
 uint16_t hz_pager_new_page(const hz_pager *pager, uint64_t page, hz_ref *ref);
 
 /* Puts len bytes into the page from the offset on, under the log record lsn: the page goes out only once the log is
  * durable as far as lsn. 0 is for a change without a record. All puts of one fix are in an image of the page, or none.
  * The bytes may be those of a fixed page, of this one too. Refused: HZ_UNKNOWN_PASS; HZ_NOT_EXCLUSIVE; HZ_OUT_OF_PAGE;
  * HZ_OUT_OF_MEMORY, where they are those of this page. The page is then as it was. */
+HZ_MUST_CHECK
 uint16_t hz_pager_put(const hz_ref *ref, size_t offset, const uint8_t *bytes, size_t len, uint64_t lsn);
 
 /* Gives a page back, with its latch. Refused: HZ_UNKNOWN_PASS. */
@@ -280,6 +285,7 @@ uint16_t hz_pager_mark(const hz_pager *pager, uint64_t lsn);
 /* Writes a page out, if it is unsaved. It waits for a thread that has its exclusive latch, and ends with a write-out
  * that began after the call, its own or another thread's. Refused: HZ_OUT_OF_PAGE; HZ_DEADLOCK; HZ_NEED_LOG,
  * HZ_LOG_LOST, HZ_WRITE_FAILED, HZ_OUT_OF_MEMORY, after which it is unsaved. */
+HZ_MUST_CHECK
 uint16_t hz_pager_flush(const hz_pager *pager, uint64_t page);
 
 /* Drops so many pages from the first one on: they leave their frames without being written out, and their references
@@ -294,6 +300,7 @@ uint16_t hz_pager_flush(const hz_pager *pager, uint64_t page);
  *
  * Refused: HZ_OUT_OF_PAGE where the file has not all of these pages: none is dropped then; HZ_PAGE_PINNED where one of
  * them is still fixed, by this thread too: those before it are dropped. */
+HZ_MUST_CHECK
 uint16_t hz_pager_discard(const hz_pager *pager, uint64_t first, uint64_t count, uint64_t *resident);
 
 /* Writes out each page that was unsaved when the call began, in the order of the file, and then syncs the device. One
@@ -308,11 +315,13 @@ uint16_t hz_pager_discard(const hz_pager *pager, uint64_t first, uint64_t count,
  * HZ_WRITE_FAILED, HZ_OUT_OF_MEMORY, of the first page of several, after which all pages are written out that can be;
  * HZ_SYNC_FAILED, after which all that went out since the last good sync may be lost. After that and after HZ_LOG_LOST
  * each later checkpoint is refused so at once, with no errno: end the pager, and redo from the log. */
+HZ_MUST_CHECK
 uint16_t hz_pager_checkpoint(const hz_pager *pager, uint64_t *lsn, uint8_t *has_lsn);
 
 /* Writes out at most so many pages, so that later victims need not be. They are pages that nobody has fixed, and whose
  * log records are durable already. It waits for no other thread: call it again and again from a thread of its own.
  * *count gets how many went out. Refused: HZ_WRITE_FAILED and HZ_OUT_OF_MEMORY, of the first page of several. */
+HZ_MUST_CHECK
 uint16_t hz_pager_clean(const hz_pager *pager, size_t most, size_t *count);
 
 /* Forgets the references of pages that are in no frame and whose newest reference is older than the retained period.
@@ -338,6 +347,10 @@ uint16_t hz_pager_fault_of(hz_pager_fault *out);
  * too large (os error 27)": as much as fits, with a zero at its end. Returns the length of the whole, without the zero.
  * Where `into` is null or len is 0, nothing is written. */
 size_t hz_pager_text(char *into, size_t len);
+
+/* Returns the text of a number of either enum of refusals, "unknown number" where none has it. It is never null, and
+ * stays as it is. */
+const char *hz_pager_strerror(uint16_t number);
 
 /* The HZ_VERSION of the library. */
 uint32_t hz_pager_version(void);

@@ -514,6 +514,12 @@ static void texts(void)
     SAME(0, text[0]);
     SAME(56, hz_pager_text(text, 5));
     SAME(0, strcmp("this", text));
+    /* By number: of the core, of the pager, of none. */
+    SAME(0, strcmp("done", hz_pager_strerror(HZ_DONE)));
+    SAME(0, strcmp("a page, or its file, could not be read", hz_pager_strerror(HZ_READ_FAILED)));
+    SAME(0, strcmp("the device could not be synced", hz_pager_strerror(HZ_SYNC_FAILED)));
+    SAME(0, strcmp("unknown number", hz_pager_strerror(15)));
+    SAME(0, strcmp("unknown number", hz_pager_strerror(UINT16_MAX)));
     SAME(HZ_VERSION, hz_pager_version());
 }
 

@@ -652,6 +652,11 @@ pub unsafe extern "C" fn hz_pager_text(into: *mut c_char, len: usize) -> usize {
 }
 
 #[unsafe(no_mangle)]
+pub extern "C" fn hz_pager_strerror(number: u16) -> *const c_char {
+    fault::explained(number).as_ptr()
+}
+
+#[unsafe(no_mangle)]
 pub extern "C" fn hz_pager_version() -> u32 {
     hojzmated::version()
 }
