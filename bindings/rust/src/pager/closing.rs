@@ -3,6 +3,7 @@ use super::Pager;
 use super::part::Part;
 use crate::{PageIo, PagerError};
 use std::ops::Deref;
+use std::sync::atomic::{AtomicBool, Ordering};
 use std::{error, fmt, thread};
 
 /// A pager that could not be [closed](Pager::close), and why. Nothing is lost: the pager can be used, and
@@ -79,8 +80,8 @@ impl<F> error::Error for NotClosed<F> {
     }
 }
 
-/// The parts of a pager. In a program with debug assertions they say on standard error what is lost as they
-/// are dropped.
+/// The parts of a pager. In a program with debug assertions the first that are dropped with unsaved pages say on
+/// standard error what is lost: engines are tested with pagers that are dropped again and again.
 pub(super) struct Parts {
     parts: Box<[Part]>,
     /// What is lost is to be lost.
@@ -109,6 +110,8 @@ impl Deref for Parts {
     }
 }
 
+static HAS_SAID: AtomicBool = AtomicBool::new(false);
+
 impl Drop for Parts {
     fn drop(&mut self) {
         // Where the thread panics, that is what is to be said.
@@ -116,10 +119,10 @@ impl Drop for Parts {
             return;
         }
         let lost: usize = self.iter().map(Part::count_unsaved).sum();
-        if lost > 0 {
+        if lost > 0 && !HAS_SAID.swap(true, Ordering::Relaxed) {
             eprintln!(
                 "hojzmated: a pager is dropped with unsaved pages ({lost}), whose changes are lost; \
-                 `close` would save them"
+                 `close` would save them. Of others this is not said"
             );
         }
     }

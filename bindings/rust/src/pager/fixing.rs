@@ -166,7 +166,7 @@ use std::sync::atomic::{AtomicU64, AtomicUsize, Ordering};
 /// or with a correlated period of 0 one after up to K such calls.
 ///
 /// [`close`](Pager::close) saves all, and gives the device and log back. Where the pager is dropped, pages that
-/// were not written out are lost: in a program with debug assertions a line on standard error says so.
+/// were not written out are lost: in a program with debug assertions a line on standard error says so, once.
 pub struct Pager<F> {
     pub(super) parts: Parts,
     /// If the number of parts is a power of two, its exponent.
@@ -285,6 +285,45 @@ impl<F> Pager<F> {
             }
         };
         (&self.parts[part as usize], own)
+    }
+
+    /// Returns a page under its shared latch, if it is in a frame and that latch is free: else None, also where the
+    /// file has no such page, or the page has 524,288 guards.
+    ///
+    /// It never waits: for no latch and no pin, for no device and no log. It takes the lock of the page's part for a
+    /// moment at most, and nobody waits under that. So a task of an async runtime may call it; what comes
+    /// of None is for a thread that may wait, as `docs/RUST.md` of the repository shows. It is a reference as
+    /// [`read`](Pager::read) is, where it gives the page.
+    ///
+    /// ```
+    /// # use hojzmated::{PageIo, ReadFault, PagerConfig, Pager};
+    /// # struct Zeros;
+    /// # impl PageIo for Zeros {
+    /// #     fn read_page(&self, _: u64, image: &mut [u8]) -> Result<(), ReadFault> { Ok(image.fill(0)) }
+    /// #     fn write_page(&self, _: u64, _: &mut [u8], _: u64) -> std::io::Result<()> { Ok(()) }
+    /// #     fn make_log_durable(&self, _: u64) -> std::io::Result<()> { Ok(()) }
+    /// #     fn sync(&self) -> std::io::Result<()> { Ok(()) }
+    /// # }
+    /// # fn main() -> Result<(), hojzmated::PagerError> {
+    /// # let pager = Pager::new(&PagerConfig::new(100, 4096, 8), Zeros)?;
+    /// assert!(pager.read_resident(7).is_none());
+    /// pager.write(7)?.put(0, b"seven", 0)?;
+    /// let page = pager.read_resident(7);
+    /// assert!(page.is_some_and(|page| page[..5] == *b"seven"));
+    /// # Ok(())
+    /// # }
+    /// ```
+    pub fn read_resident(&self, page: u64) -> Option<PageRef<'_>> {
+        let (part, own) = self.place(page).ok()?;
+        let missed = match part.join_read(own) {
+            Ok(page) => return Some(page),
+            Err(missed) => missed,
+        };
+        match part.join_read_slowly(own, missed) {
+            Joined::Latched(page) => Some(page),
+            Joined::Pinned(pin) => pin.try_into_read(),
+            Joined::Not => part.pin_resident(own)?.try_into_read(),
+        }
     }
 }
 

@@ -24,6 +24,7 @@ mod owned;
 mod panics;
 mod refusals;
 mod remembered;
+mod resident;
 mod rows;
 mod served;
 mod spread;
