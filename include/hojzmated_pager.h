@@ -21,8 +21,9 @@
  *
  * Threads. Any thread may make any call at any time, while others make others, with three rules:
  *
- *   - A page is given back, and put to, by the thread that fixed it. Another thread is refused with HZ_UNKNOWN_PASS.
- *     Where a thread ends, what it has still fixed is given back; hz_pager_free may come beside that.
+ *   - A page under a latch is given back, and put to, by the thread that fixed it. Another thread is refused with
+ *     HZ_UNKNOWN_PASS. Where a thread ends, what it has under a latch is given back; hz_pager_free may come beside that.
+ *     A page that was fixed with HZ_PINNED is of no thread: any gives it back, and it stays fixed until one does.
  *   - A thread waits for no latch of its own. So where it has a latch of a page, it is refused with HZ_DEADLOCK if it
  *     fixes that page again, except with HZ_PINNED; and if it has an exclusive latch, a flush of that page and each
  *     checkpoint are refused so.
@@ -37,9 +38,10 @@
  * child after fork, or of a thread that is cancelled within it; a file that was opened with O_APPEND, or whose
  * descriptor is closed while a pager has it.
  *
- * At its end a thread gives back the pages that it has. After that, as in handlers of atexit, hz_pager_fix and
- * hz_pager_new_page are refused with HZ_UNKNOWN_PASS, and flushes, checkpoints and hz_pager_free are made as before. A
- * thread that had fixed no page until then is not refused, and nobody gives back for it what it fixes there.
+ * At its end a thread gives back the pages that it has under a latch. After that, as in handlers of atexit,
+ * hz_pager_new_page, and hz_pager_fix but for HZ_PINNED, are refused with HZ_UNKNOWN_PASS, and flushes, checkpoints and
+ * hz_pager_free are made as before. A thread that had no latch until then is not refused, and nobody gives back for it
+ * what it latches there.
  */
 #ifndef HOJZMATED_PAGER_H
 #define HOJZMATED_PAGER_H
@@ -56,7 +58,7 @@ extern "C" {
  *     HZ_NEED_LOG       the log does not reach so far yet, as HZ_IO_NOT_YET told; the fault has the LSN
  *     HZ_BUSY           a latch cannot be had at once, with HZ_TRY; or a page is still fixed, when a pager is freed
  *     HZ_PAGE_PINNED    a page that is to be dropped is fixed
- *     HZ_UNKNOWN_PASS   this thread has not fixed the page, or has given it back
+ *     HZ_UNKNOWN_PASS   this thread has not fixed the page, or has given it back; of a pin, it was given back
  *     HZ_READ_FAILED    a page could not be read, and is in no frame; the fault has the page and the errno
  *     HZ_WRITE_FAILED   a page could not be written out, and is unsaved; the fault has the page and the errno. Or
  *                       a file could not be made longer, and the fault has no page
@@ -91,7 +93,8 @@ enum hz_pager_refusal {
 enum hz_how {
     HZ_SHARED = 1,    /* under its shared latch: nobody puts to the page meanwhile */
     HZ_EXCLUSIVE = 2, /* under its exclusive latch: nobody else has a latch of the page, nor does it go out */
-    HZ_PINNED = 3,    /* without a latch: it stays in its frame. Fix it again, under a latch, to look at it */
+    HZ_PINNED = 3,    /* without a latch: it stays in its frame. Fix it again, under a latch, to look at it. Whichever
+                         thread gives it back */
     HZ_TRY = 16,      /* waits for no latch and no pin of other threads, but for the device */
 };
 
@@ -253,7 +256,7 @@ uint16_t hz_pager_free(hz_pager *pager);
  *     HZ_DEADLOCK      this thread has a latch of the page
  *     HZ_BUSY          with HZ_TRY, where the latch is not free
  *     HZ_NO_VICTIM     with HZ_TRY at once
- *     HZ_UNKNOWN_PASS  in a handler of atexit, and the like
+ *     HZ_UNKNOWN_PASS  in a handler of atexit, and the like, but for HZ_PINNED
  *     HZ_NEED_LOG, HZ_LOG_LOST, HZ_WRITE_FAILED  no page could make way; the fault is that of the first one that was
  *                       tried. If other pages are pinned, the call waits for them before, for 5 ms at most
  *     HZ_READ_FAILED, HZ_WRONG_PAGE, HZ_CLOCK_FULL, HZ_OUT_OF_MEMORY

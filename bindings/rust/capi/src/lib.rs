@@ -2,7 +2,7 @@
 //! says what each does.
 //!
 //! Each call checks its pointers, makes the call of [`hojzmated::Pager`], and turns what comes of it into
-//! a number. No panic leaves it. What a thread has fixed is in [`held`].
+//! a number. No panic leaves it. The latches that a thread has are in [`held`], and all pins in [`pins`].
 #![allow(non_camel_case_types)]
 // The header has what each call requires.
 #![allow(clippy::missing_safety_doc)]
@@ -23,6 +23,7 @@ mod fault;
 #[allow(clippy::unwrap_used)]
 mod header;
 mod held;
+mod pins;
 mod sized;
 
 use abi::*;
@@ -337,15 +338,19 @@ extern "C" fn write_slowly(
 extern "C" fn fix_otherwise(own: &'static Pager, page: u64, how: u32, out: Place<hz_ref>) -> u16 {
     answer(|| {
         check_outside(own)?;
-        if how | HZ_TRY != TRY_PINNED {
-            held::check_latch(own, page)?;
+        if how | HZ_TRY == TRY_PINNED {
+            let pinned = match how {
+                HZ_PINNED => own.pin(page),
+                _ => own.try_pin(page),
+            };
+            let pin = pinned.map_err(|error| refused_at(page, error))?;
+            return pins::keep(pin, page, out);
         }
+        held::check_latch(own, page)?;
         held::make_room()?;
         match how {
             HZ_SHARED => kept(own.read(page), Held::Shared, page, out),
             HZ_EXCLUSIVE => kept(own.write(page), Held::Exclusive, page, out),
-            HZ_PINNED => kept(own.pin(page), Held::Pinned, page, out),
-            TRY_PINNED => kept(own.try_pin(page), Held::Pinned, page, out),
             TRY_SHARED => kept(had(own.try_read(page)), Held::Shared, page, out),
             TRY_EXCLUSIVE => kept(had(own.try_write(page)), Held::Exclusive, page, out),
             _ => Err(refusal_of(HZ_BAD_SETTINGS, page)),
@@ -472,7 +477,10 @@ extern "C" fn finish(left: Left<'static>) -> u16 {
 
 #[inline(never)]
 extern "C" fn unfix_otherwise(page: &hz_ref) -> u16 {
-    answer(|| held::give_back(page))
+    answer(|| match pins::is_one(page) {
+        true => pins::give_back(page),
+        false => held::give_back(page),
+    })
 }
 
 #[unsafe(no_mangle)]
