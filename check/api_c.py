@@ -9,7 +9,7 @@ from runner import TOP, Failed, LeftOut, text_of, write
 
 HEADERS = "hojzmated.h", "hojzmated_pager.h"
 # Macros that say how a header is read, and not what it offers.
-OWN = re.compile(r"HOJZMATED\w*_H$|HZ_VERSION")
+OWN = re.compile(r"HOJZMATED\w*_H$|HZ_VERSION|HZ_MUST_CHECK")
 
 
 def bare(header):

@@ -3,7 +3,7 @@
  *
  * The pool does no input or output and takes no lock. Threads may use one core in turn, under a lock of yours.
  *
- * Each call that returns a uint16_t returns 0, or the number of a refusal; hz_text has its text. A null pointer, but
+ * Each call that returns a uint16_t returns 0, or the number of a refusal; hz_strerror has its text. A null pointer, but
  * for that of a buffer of length 0, is refused with HZ_NULL before all else. A handle with no core is then refused
  * with HZ_NO_CORE by each call but hz_core_new. In both cases nothing is written. Any other refusal leaves what the
  * call would have written as it was, but for hz_fixed, whose kind is then 0. Any client, page, offset, length, pass or
@@ -26,6 +26,18 @@
 #include <stdbool.h>
 #include <stddef.h>
 #include <stdint.h>
+
+/* Stands before the calls whose answer a program has to look at: the compiler warns where it does not. Where a program
+ * defines it as nothing before this header, there are no such warnings. */
+#ifndef HZ_MUST_CHECK
+#if defined(__cplusplus) && __cplusplus >= 201703L
+#define HZ_MUST_CHECK [[nodiscard]]
+#elif defined(__GNUC__)
+#define HZ_MUST_CHECK __attribute__((warn_unused_result))
+#else
+#define HZ_MUST_CHECK
+#endif
+#endif
 
 #ifdef __cplusplus
 extern "C" {
@@ -135,6 +147,7 @@ typedef struct hz_stats {
 
 /* Makes a core in a handle that has none. Refused: HZ_HAS_CORE; HZ_BAD_GEOMETRY for pages and page_size,
  * HZ_BAD_SETTINGS for the rest; HZ_OUT_OF_MEMORY. */
+HZ_MUST_CHECK
 uint16_t hz_core_new(const hz_config *config, hz_core *core);
 
 /* Frees it, with all passes and tickets that are out. Refused: HZ_NO_CORE. */
@@ -152,10 +165,12 @@ uint16_t hz_core_free(hz_core *core);
  *     HZ_NEED_LOG       the victim's log record is not durable yet: out->lsn tells it
  *     HZ_OUT_OF_MEMORY  where the page is here, or is to be read or written
  */
+HZ_MUST_CHECK
 uint16_t hz_fix(hz_core *core, uint8_t client, uint64_t page, uint8_t *buffer, size_t len, hz_fixed *out);
 
 /* Ends a read: the page is in a frame, and pass is a pass for it. Refused: HZ_OUT_OF_PAGE where len is not the page
  * size; HZ_UNKNOWN_TICKET; HZ_OUT_OF_MEMORY. After the first and the last the ticket is still out. */
+HZ_MUST_CHECK
 uint16_t hz_read_end(hz_core *core, const hz_grant *ticket, const uint8_t *image, size_t len, hz_grant *pass);
 
 /* Ends a read that was not good: is_wrong_page is true where it found another page, and false where the device failed.
@@ -171,6 +186,7 @@ uint16_t hz_write_end(hz_core *core, const hz_grant *ticket, bool is_good, uint8
 uint16_t hz_unfix(hz_core *core, const hz_grant *pass);
 
 /* Copies len bytes of the page from the offset on. Refused: HZ_OUT_OF_PAGE, HZ_TRAIL_FULL, HZ_UNKNOWN_PASS. */
+HZ_MUST_CHECK
 uint16_t hz_read(hz_core *core, const hz_grant *pass, size_t offset, uint8_t *into, size_t len);
 
 /* Lends the page: tells in *bytes where its bytes are, as many as the page size, in the memory of the core. There they
@@ -178,10 +194,12 @@ uint16_t hz_read(hz_core *core, const hz_grant *pass, size_t offset, uint8_t *in
  * change by hz_write alone, through whichever pass of the page. They may be looked at and not written to. The first one
  * lies at a multiple of 16, as of all memory that malloc gives. It is no call that the room counts. Refused:
  * HZ_UNKNOWN_PASS. */
+HZ_MUST_CHECK
 uint16_t hz_page(const hz_core *core, const hz_grant *pass, const uint8_t **bytes);
 
 /* Puts len bytes into the page from the offset on, under the log record lsn. Refused: HZ_OUT_OF_PAGE, HZ_TRAIL_FULL,
  * HZ_UNKNOWN_PASS. */
+HZ_MUST_CHECK
 uint16_t hz_write(hz_core *core, const hz_grant *pass, size_t offset, const uint8_t *bytes, size_t len, uint64_t lsn);
 
 /* Moves the clock on by n. It starts at 1. Refused: HZ_BAD_CLIENT; HZ_TRAIL_FULL; HZ_CLOCK_FULL where it would pass
@@ -194,6 +212,7 @@ uint16_t hz_mark(hz_core *core, uint8_t client, uint64_t lsn);
 /* Asks that a page be written out if it is unsaved: the kind is HZ_WRITE_FIRST, HZ_CLEAN or HZ_ABSENT, with the buffer
  * as in hz_fix. Refused: HZ_BAD_CLIENT; HZ_OUT_OF_PAGE; HZ_TRAIL_FULL, where the room left is less than 2; HZ_BUSY,
  * where the page is being read or written; HZ_NEED_LOG as in hz_fix; HZ_OUT_OF_MEMORY where it is to be written. */
+HZ_MUST_CHECK
 uint16_t hz_flush(hz_core *core, uint8_t client, uint64_t page, uint8_t *buffer, size_t len, hz_fixed *out);
 
 /* Has a page leave its frame without being written out, for a page that is of no use any longer, as of a file that is
@@ -201,6 +220,7 @@ uint16_t hz_flush(hz_core *core, uint8_t client, uint64_t page, uint8_t *buffer,
  * (docs/RULES.md). Its references are forgotten too. It waits for no log and takes no memory. was_resident gets 1, or 0
  * where the page was in no frame. Refused: HZ_BAD_CLIENT; HZ_OUT_OF_PAGE; HZ_TRAIL_FULL; HZ_BUSY where the page is
  * being read or written; HZ_PAGE_PINNED where a pass of it is out. */
+HZ_MUST_CHECK
 uint16_t hz_discard(hz_core *core, uint8_t client, uint64_t page, uint8_t *was_resident);
 
 /* Forgets pages that are away and whose newest reference is older than the retained period. count gets how many.
@@ -235,7 +255,10 @@ uint16_t hz_stats_of(const hz_core *core, hz_stats *out, size_t size);
  * file. */
 uint16_t hz_is_resident(const hz_core *core, uint64_t page, uint8_t *is_resident);
 
-/* Writes the text of a number, as much as fits and with no zero at its end, and returns its whole length. Where `into`
+/* Returns the text of a number, "unknown number" where no refusal has it. It is never null, and stays as it is. */
+const char *hz_strerror(uint16_t number);
+
+/* Writes that text, as much as fits and with no zero at its end, and returns its whole length. Where `into`
  * is null nothing is written. */
 size_t hz_text(uint16_t number, uint8_t *into, size_t len);
 

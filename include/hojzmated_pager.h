@@ -21,8 +21,9 @@
  *
  * Threads. Any thread may make any call at any time, while others make others, with three rules:
  *
- *   - A page is given back, and put to, by the thread that fixed it. Another thread is refused with HZ_UNKNOWN_PASS.
- *     Where a thread ends, what it has still fixed is given back; hz_pager_free may come beside that.
+ *   - A page under a latch is given back, and put to, by the thread that fixed it. Another thread is refused with
+ *     HZ_UNKNOWN_PASS. Where a thread ends, what it has under a latch is given back; hz_pager_free may come beside that.
+ *     A page that was fixed with HZ_PINNED is of no thread: any gives it back, and it stays fixed until one does.
  *   - A thread waits for no latch of its own. So where it has a latch of a page, it is refused with HZ_DEADLOCK if it
  *     fixes that page again, except with HZ_PINNED; and if it has an exclusive latch, a flush of that page and each
  *     checkpoint are refused so.
@@ -37,9 +38,10 @@
  * child after fork, or of a thread that is cancelled within it; a file that was opened with O_APPEND, or whose
  * descriptor is closed while a pager has it.
  *
- * At its end a thread gives back the pages that it has. After that, as in handlers of atexit, hz_pager_fix and
- * hz_pager_new_page are refused with HZ_UNKNOWN_PASS, and flushes, checkpoints and hz_pager_free are made as before. A
- * thread that had fixed no page until then is not refused, and nobody gives back for it what it fixes there.
+ * At its end a thread gives back the pages that it has under a latch. After that, as in handlers of atexit,
+ * hz_pager_new_page, and hz_pager_fix but for HZ_PINNED, are refused with HZ_UNKNOWN_PASS, and flushes, checkpoints and
+ * hz_pager_free are made as before. A thread that had no latch until then is not refused, and nobody gives back for it
+ * what it latches there.
  */
 #ifndef HOJZMATED_PAGER_H
 #define HOJZMATED_PAGER_H
@@ -56,7 +58,7 @@ extern "C" {
  *     HZ_NEED_LOG       the log does not reach so far yet, as HZ_IO_NOT_YET told; the fault has the LSN
  *     HZ_BUSY           a latch cannot be had at once, with HZ_TRY; or a page is still fixed, when a pager is freed
  *     HZ_PAGE_PINNED    a page that is to be dropped is fixed
- *     HZ_UNKNOWN_PASS   this thread has not fixed the page, or has given it back
+ *     HZ_UNKNOWN_PASS   this thread has not fixed the page, or has given it back; of a pin, it was given back
  *     HZ_READ_FAILED    a page could not be read, and is in no frame; the fault has the page and the errno
  *     HZ_WRITE_FAILED   a page could not be written out, and is unsaved; the fault has the page and the errno. Or
  *                       a file could not be made longer, and the fault has no page
@@ -91,7 +93,8 @@ enum hz_pager_refusal {
 enum hz_how {
     HZ_SHARED = 1,    /* under its shared latch: nobody puts to the page meanwhile */
     HZ_EXCLUSIVE = 2, /* under its exclusive latch: nobody else has a latch of the page, nor does it go out */
-    HZ_PINNED = 3,    /* without a latch: it stays in its frame. Fix it again, under a latch, to look at it */
+    HZ_PINNED = 3,    /* without a latch: it stays in its frame. Fix it again, under a latch, to look at it. Whichever
+                         thread gives it back */
     HZ_TRY = 16,      /* waits for no latch and no pin of other threads, but for the device */
 };
 
@@ -248,6 +251,7 @@ typedef struct hz_pager_stats {
  *     HZ_VERSION_MISMATCH
  *     HZ_OUT_OF_MEMORY
  */
+HZ_MUST_CHECK
 uint16_t hz_pager_new(const hz_pager_config *config, const hz_io *io, hz_pager *pager);
 
 /* Makes a pager over a page file, without a log: each LSN counts as durable. The file is open for reading and
@@ -275,6 +279,7 @@ uint16_t hz_pager_new(const hz_pager_config *config, const hz_io *io, hz_pager *
  * file, as -1 is not: the fault has no page, and the errno that fstat gives; HZ_NOT_A_FILE; HZ_FILE_READ_ONLY;
  * HZ_FILE_IN_USE; HZ_BAD_LENGTH; HZ_WRITE_FAILED, without a page, where the file cannot be made longer: it may have
  * got some pages. */
+HZ_MUST_CHECK
 uint16_t hz_pager_new_file(const hz_pager_config *config, int fd, int format, hz_pager *pager);
 
 /* Frees a pager, whose handle has none then. It writes nothing out: pages that are unsaved are lost, so make a
@@ -293,22 +298,25 @@ uint16_t hz_pager_free(hz_pager *pager);
  *     HZ_DEADLOCK      this thread has a latch of the page
  *     HZ_BUSY          with HZ_TRY, where the latch is not free
  *     HZ_NO_VICTIM     with HZ_TRY at once
- *     HZ_UNKNOWN_PASS  in a handler of atexit, and the like
+ *     HZ_UNKNOWN_PASS  in a handler of atexit, and the like, but for HZ_PINNED
  *     HZ_NEED_LOG, HZ_LOG_LOST, HZ_WRITE_FAILED  no page could make way; the fault is that of the first one that was
  *                       tried. If other pages are pinned, the call waits for them before, for 5 ms at most
  *     HZ_READ_FAILED, HZ_WRONG_PAGE, HZ_CLOCK_FULL, HZ_OUT_OF_MEMORY
  */
+HZ_MUST_CHECK
 uint16_t hz_pager_fix(const hz_pager *pager, uint64_t page, uint32_t how, hz_ref *ref);
 
 /* Fixes a page that was never written, under its exclusive latch: its bytes are zeros, and nothing is read. If it is in
  * a frame, it is as it is there. Put something there: until then the page counts as saved, and may leave its frame
  * without being written out. Refused: as hz_pager_fix, but for HZ_BUSY and HZ_READ_FAILED. */
+HZ_MUST_CHECK
 uint16_t hz_pager_new_page(const hz_pager *pager, uint64_t page, hz_ref *ref);
 
 /* Puts len bytes into the page from the offset on, under the log record lsn: the page goes out only once the log is
  * durable as far as lsn. 0 is for a change without a record. All puts of one fix are in an image of the page, or none.
  * The bytes may be those of a fixed page, of this one too. Refused: HZ_UNKNOWN_PASS; HZ_NOT_EXCLUSIVE; HZ_OUT_OF_PAGE;
  * HZ_OUT_OF_MEMORY, where they are those of this page. The page is then as it was. */
+HZ_MUST_CHECK
 uint16_t hz_pager_put(const hz_ref *ref, size_t offset, const uint8_t *bytes, size_t len, uint64_t lsn);
 
 /* Gives a page back, with its latch. Refused: HZ_UNKNOWN_PASS. */
@@ -322,6 +330,7 @@ uint16_t hz_pager_mark(const hz_pager *pager, uint64_t lsn);
 /* Writes a page out, if it is unsaved. It waits for a thread that has its exclusive latch, and ends with a write-out
  * that began after the call, its own or another thread's. Refused: HZ_OUT_OF_PAGE; HZ_DEADLOCK; HZ_NEED_LOG,
  * HZ_LOG_LOST, HZ_WRITE_FAILED, HZ_OUT_OF_MEMORY, after which it is unsaved. */
+HZ_MUST_CHECK
 uint16_t hz_pager_flush(const hz_pager *pager, uint64_t page);
 
 /* Drops so many pages from the first one on: they leave their frames without being written out, and their references
@@ -336,6 +345,7 @@ uint16_t hz_pager_flush(const hz_pager *pager, uint64_t page);
  *
  * Refused: HZ_OUT_OF_PAGE where the file has not all of these pages: none is dropped then; HZ_PAGE_PINNED where one of
  * them is still fixed, by this thread too: those before it are dropped. */
+HZ_MUST_CHECK
 uint16_t hz_pager_discard(const hz_pager *pager, uint64_t first, uint64_t count, uint64_t *resident);
 
 /* Writes out each page that was unsaved when the call began, in the order of the file, and then syncs the device. One
@@ -350,11 +360,13 @@ uint16_t hz_pager_discard(const hz_pager *pager, uint64_t first, uint64_t count,
  * HZ_WRITE_FAILED, HZ_OUT_OF_MEMORY, of the first page of several, after which all pages are written out that can be;
  * HZ_SYNC_FAILED, after which all that went out since the last good sync may be lost. After that and after HZ_LOG_LOST
  * each later checkpoint is refused so at once, with no errno: end the pager, and redo from the log. */
+HZ_MUST_CHECK
 uint16_t hz_pager_checkpoint(const hz_pager *pager, uint64_t *lsn, uint8_t *has_lsn);
 
 /* Writes out at most so many pages, so that later victims need not be. They are pages that nobody has fixed, and whose
  * log records are durable already. It waits for no other thread: call it again and again from a thread of its own.
  * *count gets how many went out. Refused: HZ_WRITE_FAILED and HZ_OUT_OF_MEMORY, of the first page of several. */
+HZ_MUST_CHECK
 uint16_t hz_pager_clean(const hz_pager *pager, size_t most, size_t *count);
 
 /* Forgets the references of pages that are in no frame and whose newest reference is older than the retained period.
@@ -380,6 +392,10 @@ uint16_t hz_pager_fault_of(hz_pager_fault *out);
  * too large (os error 27)": as much as fits, with a zero at its end. Returns the length of the whole, without the zero.
  * Where `into` is null or len is 0, nothing is written. */
 size_t hz_pager_text(char *into, size_t len);
+
+/* Returns the text of a number of either enum of refusals, "unknown number" where none has it. It is never null, and
+ * stays as it is. */
+const char *hz_pager_strerror(uint16_t number);
 
 /* The HZ_VERSION of the library. */
 uint32_t hz_pager_version(void);

@@ -2,7 +2,8 @@
  * Where two structs of the caller's may be one, it passes its own. A length beyond the largest page it passes as one
  * byte more than that, which the proved call refuses. Where a device failed, the proved call that ends the ticket
  * answers how; here it has done what was asked, and answers 0. The proved calls are those of crates/hojzmated_c, whose
- * names begin with proved_. Those that only tell take the core as const here, and leave it as it is.
+ * names begin with proved_. Those that only tell take the core as const here, and leave it as it is. hz_strerror has no
+ * proved call: it has the texts of hz_text once more, each with a zero at its end.
  *
  * This file is tested, by fuzz.c and peers/c/refusals.c, and not proved.
  */
@@ -227,6 +228,42 @@ uint16_t hz_is_resident(const hz_core *core, uint64_t page, uint8_t *is_resident
 size_t hz_text(uint16_t number, uint8_t *into, size_t len)
 {
     return into ? proved_hz_text(number, into, length_of(len)) : proved_hz_text(number, &nowhere, 0);
+}
+
+const char *hz_strerror(uint16_t number)
+{
+    switch (number) {
+    case HZ_DONE: return "done";
+    case HZ_BAD_GEOMETRY: return "the number of pages or the page size is out of its limits";
+    case HZ_BAD_SETTINGS: return "a setting of the pool is out of its limits";
+    case 3: return "the page file is no positive number of whole pages, or has too many";
+    case HZ_NO_VICTIM: return "no page may leave its frame";
+    case HZ_NEED_LOG: return "the log must first be durable up to the LSN that is told";
+    case HZ_BUSY: return "a device operation on the page is under way";
+    case HZ_UNKNOWN_PASS: return "no such pass is out";
+    case HZ_UNKNOWN_TICKET: return "no such ticket is out";
+    case HZ_READ_FAILED: return "the page could not be read";
+    case HZ_WRITE_FAILED: return "the page could not be written";
+    case HZ_WRONG_PAGE: return "the page's place in its file has another page";
+    case HZ_TRAIL_FULL: return "the trail has no room for the call";
+    case HZ_CLOCK_FULL: return "the clock would pass its end";
+    case HZ_OUT_OF_MEMORY: return "out of memory";
+    case 23: return "the ring of passes to give back is full";
+    case 24: return "a mark came before the log rows of client 0 allow it";
+    case HZ_PAGE_PINNED: return "the page is pinned";
+    case 40: return "a record does not have the fields of its operation, or lacks the column of a sweep";
+    case HZ_BAD_CLIENT: return "no client has this number here";
+    case 42: return "no operation has this name";
+    case 43: return "a field is not a number within the limits";
+    case 44: return "the bytes are not pairs of hexadecimal digits";
+    case HZ_OUT_OF_PAGE: return "the page is not of the file, or the bytes are not within the page";
+    case 46: return "the trace or the list of references is too long";
+    case 47: return "the trace or the list of references could not be read";
+    case HZ_NO_CORE: return "the handle has no core";
+    case HZ_HAS_CORE: return "the handle has a core already";
+    case HZ_NULL: return "a pointer is null";
+    default: return "unknown number";
+    }
 }
 
 uint32_t hz_version(void)

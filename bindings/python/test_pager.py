@@ -191,6 +191,16 @@ class Pagers(Pages):
                 self.assertEqual(bytes(page.bytes), bytes(64))
                 self.assertEqual(in_thread(lambda: bytes(page.bytes)), bytes(64))
 
+    # It is of no thread, and given back once.
+    def test_unfix_of_a_pin_by_another_thread(self):
+        with self.pager() as pager:
+            pin = pager.pin(2)
+            self.assertEqual(pager.stats().pinned, 1)
+            in_thread(pin.unfix)
+            self.assertEqual(pager.stats().pinned, 0)
+            self.refused(14, pin.unfix)
+            self.refused(14, lambda: pin.bytes, page=2)
+
     @unittest.skipUnless(numpy, "no numpy")
     def test_numpy(self):
         with self.pager() as pager:

@@ -40,9 +40,7 @@ int main(void)
         number = hz_file_flush(&core, &file, 0, page, &asked);
     if (!number)
         number = hz_file_sync(&file);
-    uint8_t text[96];
-    printf("%.*s: the last page counts %llu\n", (int)hz_text(number, text, sizeof text), (char *)text,
-           (unsigned long long)count);
+    printf("%s: the last page counts %llu\n", hz_strerror(number), (unsigned long long)count);
     hz_core_free(&core);
     return number != 0;
 }

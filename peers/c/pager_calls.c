@@ -393,15 +393,24 @@ static void serials(void)
     end(&pager);
 }
 
+static hz_ref pin_of_another;
+
 static void *end_with_pages(void *pager)
 {
     fixed(pager, 1, HZ_EXCLUSIVE);
     fixed(pager, 2, HZ_SHARED);
-    fixed(pager, 3, HZ_PINNED);
+    pin_of_another = fixed(pager, 3, HZ_PINNED);
     return NULL;
 }
 
-/* What a thread has at its end is given back. */
+static size_t pinned(const hz_pager *pager)
+{
+    hz_pager_stats stats;
+    SAME(HZ_DONE, hz_pager_stats_of(pager, &stats, sizeof stats));
+    return stats.pinned;
+}
+
+/* What a thread has under a latch at its end is given back. What it has pinned stays, and this thread gives it back. */
 static void ends_of_threads(void)
 {
     hz_pager pager = start();
@@ -410,6 +419,92 @@ static void ends_of_threads(void)
         hz_ref ref = fixed(&pager, page, HZ_EXCLUSIVE | HZ_TRY);
         SAME(HZ_DONE, hz_pager_unfix(&ref));
     }
+    SAME(1, pinned(&pager));
+    REFUSED(HZ_BUSY, 0, 0, 0, 0, hz_pager_free(&pager));
+    SAME(HZ_DONE, hz_pager_unfix(&pin_of_another));
+    SAME(0, pinned(&pager));
+    end(&pager);
+}
+
+/* ---- Pins, which are of no thread ---- */
+
+static void *with_pin_of_another(void *argument)
+{
+    const hz_ref *pin = argument;
+    REFUSED(HZ_NOT_EXCLUSIVE, 1, 3, 0, 0, hz_pager_put(pin, 0, (const uint8_t *)"x", 1, 1));
+    SAME(HZ_DONE, hz_pager_unfix(pin));
+    REFUSED(HZ_UNKNOWN_PASS, 0, 0, 0, 0, hz_pager_unfix(pin));
+    SAME(HZ_UNKNOWN_PASS, hz_pager_put(pin, 0, (const uint8_t *)"x", 1, 1));
+    return NULL;
+}
+
+enum { PASSERS = 4, PASSES = 20000, RING = 64 };
+
+/* Pins on their way from thread to thread. */
+static struct ring {
+    pthread_mutex_t lock;
+    hz_ref pins[RING];
+    size_t first, count;
+} ring = {.lock = PTHREAD_MUTEX_INITIALIZER};
+
+/* Pins pages, and gives back what others pinned. */
+static void *pass_on(void *pager)
+{
+    for (uint64_t i = 0; i < PASSES; i++) {
+        hz_ref in = fixed(pager, i % 4, HZ_PINNED), out = in;
+        pthread_mutex_lock(&ring.lock);
+        bool is_full = ring.count == RING;
+        size_t last = (ring.first + ring.count) % RING;
+        if (is_full) {
+            out = ring.pins[ring.first];
+            ring.first = (ring.first + 1) % RING;
+        } else {
+            ring.count++;
+        }
+        ring.pins[last] = in;
+        pthread_mutex_unlock(&ring.lock);
+        if (is_full)
+            SAME(HZ_DONE, hz_pager_unfix(&out));
+    }
+    return NULL;
+}
+
+static void pins_of_no_thread(void)
+{
+    hz_pager pager = start();
+    hz_ref pin = fixed(&pager, 3, HZ_PINNED), other = fixed(&pager, 3, HZ_PINNED), latch = fixed(&pager, 3, HZ_SHARED);
+    in_thread(with_pin_of_another, &pin);
+    SAME(HZ_UNKNOWN_PASS, hz_pager_unfix(&pin));
+    SAME(1, pinned(&pager));
+    /* Of a handle each number has to be that of the pin. */
+    for (int i = 0; i < 4; i++) {
+        hz_ref forged = other;
+        switch (i) {
+        case 0: forged.page++; break;
+        case 1: forged.slot++; break;
+        case 2: forged.slot = UINT32_MAX; break;
+        case 3: forged.serial++; break;
+        }
+        SAME(HZ_UNKNOWN_PASS, hz_pager_unfix(&forged));
+    }
+    SAME(HZ_DONE, hz_pager_unfix(&latch));
+    SAME(HZ_DONE, hz_pager_unfix(&other));
+    /* One that takes the slot of another has a handle of its own. */
+    hz_ref next = fixed(&pager, 3, HZ_PINNED);
+    SAME(true, next.slot == other.slot && next.serial != other.serial);
+    SAME(HZ_UNKNOWN_PASS, hz_pager_unfix(&other));
+    SAME(HZ_DONE, hz_pager_unfix(&next));
+    SAME(0, pinned(&pager));
+    pthread_t threads[PASSERS];
+    for (int i = 0; i < PASSERS; i++)
+        SAME(0, pthread_create(&threads[i], NULL, pass_on, &pager));
+    for (int i = 0; i < PASSERS; i++)
+        SAME(0, pthread_join(threads[i], NULL));
+    SAME(RING, ring.count);
+    for (size_t i = 0; i < RING; i++)
+        SAME(HZ_DONE, hz_pager_unfix(&ring.pins[i]));
+    ring.first = ring.count = 0;
+    SAME(0, pinned(&pager));
     end(&pager);
 }
 
@@ -529,6 +624,12 @@ static void texts(void)
     SAME(0, text[0]);
     SAME(56, hz_pager_text(text, 5));
     SAME(0, strcmp("this", text));
+    /* By number: of the core, of the pager, of none. */
+    SAME(0, strcmp("done", hz_pager_strerror(HZ_DONE)));
+    SAME(0, strcmp("a page, or its file, could not be read", hz_pager_strerror(HZ_READ_FAILED)));
+    SAME(0, strcmp("the device could not be synced", hz_pager_strerror(HZ_SYNC_FAILED)));
+    SAME(0, strcmp("unknown number", hz_pager_strerror(15)));
+    SAME(0, strcmp("unknown number", hz_pager_strerror(UINT16_MAX)));
     SAME(HZ_VERSION, hz_pager_version());
 }
 
@@ -558,6 +659,7 @@ int main(void)
         handles();
         serials();
         ends_of_threads();
+        pins_of_no_thread();
         busy();
         deadlocks();
         no_victim();

@@ -689,6 +689,14 @@ static void texts(void)
         SAME(len, hz_text(rows[i].number, into, 3));
         SAME(true, !memcmp(into, rows[i].text, 3) && is_filled(into + 3, sizeof into - 3, ODD));
         SAME(len, hz_text(rows[i].number, NULL, 3));
+        SAME(0, strcmp(rows[i].text, hz_strerror(rows[i].number)));
+    }
+    /* Both have the same text of each number. */
+    for (uint32_t number = 0; number <= UINT16_MAX; number++) {
+        uint8_t into[128];
+        const char *text = hz_strerror((uint16_t)number);
+        SAME(strlen(text), hz_text((uint16_t)number, into, sizeof into));
+        SAME(true, !memcmp(into, text, strlen(text)));
     }
 }
 

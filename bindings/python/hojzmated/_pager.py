@@ -97,7 +97,7 @@ def _keep(pager: Pager, number: int, is_kept: Any, is_gone: threading.Event) -> 
 
 class FixedPage(Generic[Lent]):
     """A page that stays in its frame until `unfix`, or until the end of a `with`, which are for the thread that fixed
-    it.
+    it, if it is not only pinned.
 
     `number` is the page, and `how` how it is fixed. `bytes` are its bytes in place, as a `memoryview` that cannot be
     written to; None if the page is only pinned. `numpy.frombuffer(page.bytes, dtype)` makes an array of them without a
@@ -156,8 +156,9 @@ class FixedPage(Generic[Lent]):
                                      f"offset {offset:,} on are not within it", self.number) from None
 
     def unfix(self) -> None:
-        """Gives the page back, with its latch. Refused: 14 where it was given back already, or another thread fixed it.
-        BufferError where a slice or an array of `bytes` is still there."""
+        """Gives the page back, with its latch. Refused: 14 where it was given back already, or another thread fixed it;
+        but any thread gives back a page that is only pinned. BufferError where a slice or an array of `bytes` is still
+        there."""
         pager, serial, pages = self._pager, self._ref.serial, _own.pages
         if pager._is_of_parent:
             pager._check_process()
@@ -167,6 +168,7 @@ class FixedPage(Generic[Lent]):
             self._is_over = True
         if pager._library.hz_pager_unfix(self._ref):
             raise pager._refusal()
+        self._is_over = True
         pages.pop(serial, None)  # last: until then a call that a signal interrupts can be made again
         if pager._wanted is not None:
             pager._is_free.set()

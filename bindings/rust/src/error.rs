@@ -1,6 +1,7 @@
 //! `Error`: the refusals of the library.
 use crate::sys;
 use std::fmt;
+use std::io;
 use std::result;
 
 /// A refusal of a core, which is a [`Pool`](crate::core::Pool). It changes nothing, except that 11, 12, 13 and 25 count as
@@ -17,10 +18,12 @@ use std::result;
 #[derive(Clone, Copy, Debug, PartialEq, Eq, Hash)]
 #[non_exhaustive]
 pub enum Error {
-    /// 1: the number of pages or the page size is out of its limits.
-    BadGeometry,
-    /// 2: another setting of the pool is out of its limits.
-    BadSettings,
+    /// 1 or 2: a setting is out of its limits. 1 is for `pages` and `page_size`, and 2 for all others.
+    BadSetting {
+        /// The field of [`Config`](crate::core::Config) or [`PagerConfig`](crate::PagerConfig): the first one
+        /// that is out of its limits.
+        field: &'static str,
+    },
     /// 11: no page can be evicted. Each is being read, pinned, being written out, or was referenced
     /// within the correlated period.
     NoVictim,
@@ -53,9 +56,23 @@ pub enum Error {
     PagePinned,
     /// 41: no client has this number here.
     BadClient,
-    /// 45: the file has no such page, or the bytes are not within the page, or the buffer does not
-    /// have the page size.
-    OutOfPage,
+    /// 45: the file has no such page.
+    NoSuchPage {
+        /// The page: of several that are asked for, the first that the file has not.
+        page: u64,
+    },
+    /// 45: the bytes are not within the page.
+    OutOfPage {
+        /// Where in the page the first of them would be.
+        offset: usize,
+        /// How many they are. It is `usize::MAX` of a range without an end, or that ends before it begins.
+        len: usize,
+    },
+    /// 45: the buffer or the image has not the size of a page.
+    BadBuffer {
+        /// The bytes that it has.
+        len: usize,
+    },
     // No call of this crate gives the next three: it sees to it that none of them has cause.
     /// 50: the handle has no core.
     #[doc(hidden)]
@@ -93,12 +110,15 @@ pub enum Error {
 /// The result of a call of the pool.
 pub type Result<T, E = Error> = result::Result<T, E>;
 
-/// Each refusal of the library that has a number of its own.
-static NUMBERED: [Error; 19] = [
-    Error::BadGeometry,
-    Error::BadSettings,
+// The numbers of refusals that say more: who makes the call knows of what they are.
+pub(crate) const BAD_GEOMETRY: u16 = 1;
+pub(crate) const BAD_SETTINGS: u16 = 2;
+pub(crate) const NEED_LOG: u16 = 12;
+pub(crate) const OUT_OF_PAGE: u16 = 45;
+
+/// Each other refusal of the library.
+static NUMBERED: [Error; 15] = [
     Error::NoVictim,
-    Error::NeedLog { lsn: 0 },
     Error::Busy,
     Error::UnknownPass,
     Error::UnknownTicket,
@@ -110,7 +130,6 @@ static NUMBERED: [Error; 19] = [
     Error::OutOfMemory,
     Error::PagePinned,
     Error::BadClient,
-    Error::OutOfPage,
     Error::NoCore,
     Error::HasCore,
     Error::Null,
@@ -122,10 +141,12 @@ impl Error {
     /// [`Deadlock`](Error::Deadlock) and [`LogLost`](Error::LogLost) are beyond those.
     pub const fn number(self) -> u16 {
         match self {
-            Error::BadGeometry => 1,
-            Error::BadSettings => 2,
+            Error::BadSetting { field } => match field.as_bytes() {
+                b"pages" | b"page_size" => BAD_GEOMETRY,
+                _ => BAD_SETTINGS,
+            },
             Error::NoVictim => 11,
-            Error::NeedLog { .. } => 12,
+            Error::NeedLog { .. } => NEED_LOG,
             Error::Busy => 13,
             Error::UnknownPass => 14,
             Error::UnknownTicket => 16,
@@ -137,7 +158,9 @@ impl Error {
             Error::OutOfMemory => 22,
             Error::PagePinned => 25,
             Error::BadClient => 41,
-            Error::OutOfPage => 45,
+            Error::NoSuchPage { .. } | Error::OutOfPage { .. } | Error::BadBuffer { .. } => {
+                OUT_OF_PAGE
+            }
             Error::NoCore => 50,
             Error::HasCore => 51,
             Error::Null => 52,
@@ -150,17 +173,14 @@ impl Error {
         }
     }
 
-    /// Returns the refusal with this number. For [`NeedLog`](Error::NeedLog) `lsn` is its LSN.
+    /// Returns the refusal with this number, which says all.
     ///
     /// It is inlined and its search is not: a function that gets the place of the result would keep
     /// the value of a call, such as a guard, out of registers.
     #[inline]
-    fn numbered(number: u16, lsn: u64) -> Error {
-        match NUMBERED.get(Error::place_of(number)) {
-            Some(Error::NeedLog { .. }) => Error::NeedLog { lsn },
-            Some(error) => *error,
-            None => Error::Other(number),
-        }
+    pub(crate) fn numbered(number: u16) -> Error {
+        let error = NUMBERED.get(Error::place_of(number));
+        error.copied().unwrap_or(Error::Other(number))
     }
 
     /// Returns the place in the list of the refusal with this number, or the end of the list.
@@ -174,15 +194,42 @@ impl Error {
     /// Returns the refusal of a call that answered this number, if it is one.
     #[inline]
     pub(crate) fn check(number: u16) -> Result<()> {
-        Error::check_with(number, 0)
+        Error::check_as(number, Error::numbered)
     }
 
-    /// Returns the same for a call that also tells the LSN that the log needs.
+    /// Returns the same for a call that knows more of its refusals.
     #[inline]
-    pub(crate) fn check_with(number: u16, lsn: u64) -> Result<()> {
+    pub(crate) fn check_as(number: u16, told: impl FnOnce(u16) -> Error) -> Result<()> {
         match number {
             0 => Ok(()),
-            refused => Err(Error::numbered(refused, lsn)),
+            refused => Err(told(refused)),
+        }
+    }
+
+    /// Returns the refusal of a call for bytes of a page.
+    #[cold]
+    pub(crate) fn of_bytes(number: u16, offset: usize, len: usize) -> Error {
+        match number {
+            OUT_OF_PAGE => Error::OutOfPage { offset, len },
+            number => Error::numbered(number),
+        }
+    }
+
+    /// What kind of fault of the system it is like.
+    pub(crate) fn kind(self) -> io::ErrorKind {
+        match self {
+            Error::OutOfMemory => io::ErrorKind::OutOfMemory,
+            Error::NoVictim | Error::Busy | Error::PagePinned | Error::Lent => {
+                io::ErrorKind::ResourceBusy
+            }
+            Error::Deadlock => io::ErrorKind::Deadlock,
+            Error::WrongPage => io::ErrorKind::InvalidData,
+            Error::BadSetting { .. }
+            | Error::NoSuchPage { .. }
+            | Error::OutOfPage { .. }
+            | Error::BadBuffer { .. }
+            | Error::BadClient => io::ErrorKind::InvalidInput,
+            _ => io::ErrorKind::Other,
         }
     }
 }
@@ -190,6 +237,16 @@ impl Error {
 impl fmt::Display for Error {
     fn fmt(&self, f: &mut fmt::Formatter<'_>) -> fmt::Result {
         match *self {
+            Error::BadSetting { field } => {
+                return write!(f, "the setting {field} is out of its limits");
+            }
+            Error::NoSuchPage { page } => return write!(f, "the file has no page {page}"),
+            Error::OutOfPage { offset, len } => {
+                return write!(f, "{len} bytes from {offset} on are not within the page");
+            }
+            Error::BadBuffer { len } => {
+                return write!(f, "a buffer of {len} bytes has not the size of a page");
+            }
             Error::Lent => return f.write_str("bytes of the page are lent"),
             Error::TooManyGuards => return f.write_str("the page has too many guards"),
             Error::Deadlock => {
@@ -221,6 +278,13 @@ impl fmt::Display for Error {
 
 impl std::error::Error for Error {}
 
+/// For engines whose own calls fail as those of the system do. The `Error` is within.
+impl From<Error> for io::Error {
+    fn from(error: Error) -> io::Error {
+        io::Error::new(error.kind(), error)
+    }
+}
+
 #[cfg(test)]
 mod tests {
     use super::*;
@@ -240,20 +304,37 @@ mod tests {
             .collect()
     }
 
-    /// The numbers here are those of the header's `enum hz_refusal`, all of them and in its order.
-    /// So are the names, in the header's spelling.
+    /// The numbers here are those of the header's `enum hz_refusal`, all of them and in its order, but for
+    /// those of refusals that say more. So are the names, in the header's spelling.
     #[test]
     fn numbers() {
         let here: Vec<(String, u16)> = NUMBERED
             .iter()
             .map(|error| (name_in_c(*error), error.number()))
             .collect();
-        assert_eq!(here, refusals_in_header());
+        let (more, there): (Vec<_>, Vec<_>) = refusals_in_header()
+            .into_iter()
+            .partition(|(_, number)| [1, 2, 12, 45].contains(number));
+        assert_eq!(here, there);
+        let names = more.iter().map(|(name, _)| name.as_str());
+        let wanted = ["BAD_GEOMETRY", "BAD_SETTINGS", "NEED_LOG", "OUT_OF_PAGE"];
+        assert!(names.eq(wanted.map(|name| format!("HZ_{name}"))));
         for error in NUMBERED {
-            assert_eq!(Error::numbered(error.number(), 0), error);
+            assert_eq!(Error::numbered(error.number()), error);
         }
-        assert_eq!(Error::numbered(12, 7), Error::NeedLog { lsn: 7 });
-        assert_eq!(Error::numbered(15, 7), Error::Other(15));
+        assert_eq!(Error::numbered(15), Error::Other(15));
+        let of_setting = |field| Error::BadSetting { field }.number();
+        let fields = ["pages", "page_size", "frames", "parts", "k"];
+        assert_eq!(fields.map(of_setting), [1, 1, 2, 2, 2]);
+        assert_eq!(Error::NeedLog { lsn: 7 }.number(), 12);
+        let (page, offset, len) = (7, 8, 9);
+        for error in [
+            Error::NoSuchPage { page },
+            Error::OutOfPage { offset, len },
+            Error::BadBuffer { len },
+        ] {
+            assert_eq!(error.number(), 45);
+        }
         let last = NUMBERED.map(Error::number).into_iter().max();
         assert!(last < Some(Error::Lent.number()));
         assert_eq!(Error::VersionMismatch { library: 0 }.number(), 61);
@@ -283,8 +364,17 @@ mod tests {
                 "the log must first be durable up to the LSN that is told (LSN 5)",
             ),
             (
-                Error::OutOfPage,
-                "the page is not of the file, or the bytes are not within the page",
+                Error::BadSetting { field: "k" },
+                "the setting k is out of its limits",
+            ),
+            (Error::NoSuchPage { page: 100 }, "the file has no page 100"),
+            (
+                Error::OutOfPage { offset: 60, len: 5 },
+                "5 bytes from 60 on are not within the page",
+            ),
+            (
+                Error::BadBuffer { len: 63 },
+                "a buffer of 63 bytes has not the size of a page",
             ),
             (Error::Lent, "bytes of the page are lent"),
             (Error::TooManyGuards, "the page has too many guards"),

@@ -176,6 +176,40 @@ impl From<Error> for PagerError {
     }
 }
 
+impl PagerError {
+    /// What kind of fault of the system it is like: that of the device's or the log's own fault, where it has one.
+    fn kind(&self) -> io::ErrorKind {
+        match self {
+            PagerError::Read { source, .. }
+            | PagerError::Write { source, .. }
+            | PagerError::Log { source, .. }
+            | PagerError::Sync { source } => source.kind(),
+            PagerError::WrongPage { .. } | PagerError::Spoilt { .. } => io::ErrorKind::InvalidData,
+            PagerError::Refused(error) | PagerError::RefusedPage { error, .. } => error.kind(),
+            _ => io::ErrorKind::Other,
+        }
+    }
+}
+
+/// For engines whose own calls fail as those of the system do. The `PagerError` is within.
+///
+/// ```
+/// use hojzmated::{Error, PagerError};
+/// use std::io;
+///
+/// let refused = PagerError::from(Error::NoSuchPage { page: 100 });
+/// let error = io::Error::from(refused);
+/// assert_eq!(error.kind(), io::ErrorKind::InvalidInput);
+/// assert_eq!(error.to_string(), "the file has no page 100");
+/// let within = error.downcast::<PagerError>();
+/// assert!(within.is_ok_and(|error| error.refusal().number() == 45));
+/// ```
+impl From<PagerError> for io::Error {
+    fn from(fault: PagerError) -> io::Error {
+        io::Error::new(fault.kind(), fault)
+    }
+}
+
 impl fmt::Display for PagerError {
     fn fmt(&self, f: &mut fmt::Formatter<'_>) -> fmt::Result {
         match self {

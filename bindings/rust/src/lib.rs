@@ -80,8 +80,8 @@ pub use files::{Device, FileOptions, FilePages, Layout, Log, NoLog, OpenError, W
 pub use io::PageIo;
 pub use observer::{Observer, Wait};
 pub use pager::{
-    Cleaner, OwnedMut, OwnedPin, OwnedRef, PageMut, PagePin, PageRef, Pager, PagerConfig, Readers,
-    Stats,
+    Cleaner, NotClosed, OwnedMut, OwnedPin, OwnedRef, PageMut, PagePin, PageRef, Pager,
+    PagerConfig, Readers, Stats,
 };
 #[doc(hidden)]
 pub use pager::{Left, Missed, MissedAlone};

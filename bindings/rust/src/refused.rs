@@ -349,12 +349,23 @@
 //! is_send::<hojzmated::PageMut<'static>>();
 //! ```
 //!
+//! ```compile_fail,E0277
+//! fn is_send<T: Send>() {}
+//! is_send::<hojzmated::OwnedRef<()>>();
+//! ```
+//!
+//! ```compile_fail,E0277
+//! fn is_send<T: Send>() {}
+//! is_send::<hojzmated::OwnedMut<()>>();
+//! ```
+//!
 //! A pin may, and all threads may look by one guard:
 //!
 //! ```
 //! fn is_send<T: Send>() {}
 //! fn is_sync<T: Sync>() {}
 //! is_send::<hojzmated::PagePin<'static>>();
+//! is_send::<hojzmated::OwnedPin<()>>();
 //! is_sync::<hojzmated::PageRef<'static>>();
 //! is_send::<hojzmated::Pager<()>>();
 //! is_sync::<hojzmated::Pager<()>>();

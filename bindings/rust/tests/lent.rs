@@ -44,7 +44,8 @@ fn write_to_a_lent_page() {
     one.put(0, b"a", 0).unwrap();
     second.put(1, b"b", 0).unwrap();
     pool.put(&pass, 2, b"c", 0).unwrap();
-    assert_eq!(one.put(17, b"", 0), Err(Error::OutOfPage));
+    let (offset, len) = (17, 0);
+    assert_eq!(one.put(17, b"", 0), Err(Error::OutOfPage { offset, len }));
     assert_eq!(second.bytes().unwrap()[..4], *b"abc\x01");
     assert_eq!(other.bytes().unwrap()[..6], *b"other\x02");
     pool.unfix(pass).unwrap();
@@ -242,8 +243,10 @@ fn from_one_page_to_another() {
     assert_eq!(part, bytes[5..9]);
     // Nothing and too much are answered as ever.
     to.put(16, &bytes[16..], 0).unwrap();
-    assert_eq!(to.put(1, &bytes, 0), Err(Error::OutOfPage));
-    assert_eq!(to.put(0, &[7; 100], 0), Err(Error::OutOfPage));
+    let beyond = |offset, len| Err(Error::OutOfPage { offset, len });
+    assert_eq!(to.put(1, &bytes, 0), beyond(1, 16));
+    assert_eq!(to.put(0, &[7; 100], 0), beyond(0, 100));
+    assert_eq!(from.copy_to(13, &mut part), beyond(13, 4));
     drop(to);
     // A page is taken for the image of another one.
     pool.tick(0, 1).unwrap();
@@ -255,7 +258,7 @@ fn from_one_page_to_another() {
         panic!("page 3 is away");
     };
     let Refused { error, token } = pool.end_read(ticket, &bytes[1..]).unwrap_err();
-    assert_eq!(error, Error::OutOfPage);
+    assert_eq!(error, Error::BadBuffer { len: 15 });
     let third = pool.end_read(token, &bytes).unwrap();
     assert_eq!(*third.bytes().unwrap(), *bytes);
     third.put(0, b"third", 0).unwrap();

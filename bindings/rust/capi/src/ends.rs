@@ -11,7 +11,7 @@ use std::{ptr, thread};
 
 const THREADS: u64 = 4;
 const ROUNDS: u64 = 200;
-const HOWS: [u32; 3] = [HZ_EXCLUSIVE, HZ_SHARED, HZ_PINNED];
+const HOWS: [u32; 2] = [HZ_EXCLUSIVE, HZ_SHARED];
 
 unsafe extern "C" fn read(_: *mut c_void, _: u64, image: *mut u8, size: usize) -> c_int {
     // SAFETY: the image has this length.
@@ -82,7 +82,7 @@ fn fix(handle: Handle, page: u64, how: u32) {
 
 /// Fixes pages in a thread, and makes no other call there: what comes after it is the thread's end.
 fn fix_and_end(handle: Handle, thread: u64, have_fixed: &AtomicU64, may_end: &AtomicBool) {
-    fix(handle, 0, HZ_PINNED);
+    fix(handle, 0, HZ_SHARED);
     for (place, how) in (1..).zip(HOWS) {
         fix(handle, 3 * thread + place, how);
     }

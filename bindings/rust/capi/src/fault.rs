@@ -2,6 +2,7 @@
 use crate::abi::*;
 use hojzmated::{Error, OpenError, PagerError};
 use std::cell::Cell;
+use std::ffi::CStr;
 use std::fmt;
 use std::io;
 
@@ -192,44 +193,57 @@ impl From<PagerError> for Refusal {
 }
 
 /// The text of a refusal, by what it means here.
-fn text_of(number: u16, has_page: bool) -> &'static str {
+fn text_of(number: u16, has_page: bool) -> &'static CStr {
     match number {
-        0 => "nothing was refused",
-        HZ_BAD_GEOMETRY => "the number of pages or the page size is out of its limits",
-        HZ_BAD_SETTINGS => "a setting is out of its limits",
-        HZ_NO_VICTIM => "all pages that could make way are pinned",
-        HZ_NEED_LOG => "the log does not reach so far yet",
-        HZ_PAGE_PINNED => "it is still fixed",
-        HZ_BUSY => "a latch is not free, or a page is still fixed",
-        HZ_UNKNOWN_PASS => "this thread has not fixed the page, or has given it back",
-        HZ_BAD_LENGTH => "the file has too few pages, or does not end with a whole one",
-        HZ_READ_FAILED if !has_page => "the file could not be read",
-        HZ_WRITE_FAILED if !has_page => "the file could not be made longer",
-        HZ_READ_FAILED => "it could not be read",
-        HZ_WRITE_FAILED => "it could not be written",
-        HZ_WRONG_PAGE => "another page was found in its place, or a spoilt one",
-        HZ_TRAIL_FULL => "a part has answered as many calls as it may in all",
-        HZ_CLOCK_FULL => "the clock of a part has come to its end",
-        HZ_OUT_OF_MEMORY => "out of memory",
-        HZ_OUT_OF_PAGE => "the file has no such page, or the bytes are not within the page",
-        HZ_NO_CORE => "the handle has no pager",
-        HZ_HAS_CORE => "the handle has a pager already",
-        HZ_NULL => "a pointer is null",
+        0 => c"nothing was refused",
+        HZ_BAD_GEOMETRY => c"the number of pages or the page size is out of its limits",
+        HZ_BAD_SETTINGS => c"a setting is out of its limits",
+        HZ_NO_VICTIM => c"all pages that could make way are pinned",
+        HZ_NEED_LOG => c"the log does not reach so far yet",
+        HZ_PAGE_PINNED => c"it is still fixed",
+        HZ_BUSY => c"a latch is not free, or a page is still fixed",
+        HZ_UNKNOWN_PASS => c"this thread has not fixed the page, or has given it back",
+        HZ_BAD_LENGTH => c"the file has too few pages, or does not end with a whole one",
+        HZ_READ_FAILED if !has_page => c"the file could not be read",
+        HZ_WRITE_FAILED if !has_page => c"the file could not be made longer",
+        HZ_READ_FAILED => c"it could not be read",
+        HZ_WRITE_FAILED => c"it could not be written",
+        HZ_WRONG_PAGE => c"another page was found in its place, or a spoilt one",
+        HZ_TRAIL_FULL => c"a part has answered as many calls as it may in all",
+        HZ_CLOCK_FULL => c"the clock of a part has come to its end",
+        HZ_OUT_OF_MEMORY => c"out of memory",
+        HZ_OUT_OF_PAGE => c"the file has no such page, or the bytes are not within the page",
+        HZ_NO_CORE => c"the handle has no pager",
+        HZ_HAS_CORE => c"the handle has a pager already",
+        HZ_NULL => c"a pointer is null",
         HZ_VERSION_MISMATCH => {
-            "the library was built over a core of another version, and makes no pager"
+            c"the library was built over a core of another version, and makes no pager"
         }
-        HZ_SYNC_FAILED => "the device could not be synced",
-        HZ_DEADLOCK => "the call would wait for a latch that this thread has",
-        HZ_NOT_EXCLUSIVE => "the page is not under its exclusive latch",
-        HZ_IN_CALLBACK => "a callback of the pager may not make this call",
+        HZ_SYNC_FAILED => c"the device could not be synced",
+        HZ_DEADLOCK => c"the call would wait for a latch that this thread has",
+        HZ_NOT_EXCLUSIVE => c"the page is not under its exclusive latch",
+        HZ_IN_CALLBACK => c"a callback of the pager may not make this call",
         HZ_PANICKED => {
-            "the library found a fault of its own, or a page has 500,000 pins or latches"
+            c"the library found a fault of its own, or a page has 500,000 pins or latches"
         }
-        HZ_FILE_IN_USE => "another pager or process has the file, or it cannot be locked",
-        HZ_NOT_A_FILE => "it is a directory, a pipe or a device, and no file",
-        HZ_FILE_READ_ONLY => "the file is open for reading alone",
-        HZ_LOG_LOST => "the log failed",
-        _ => "a number that a newer core has",
+        HZ_FILE_IN_USE => c"another pager or process has the file, or it cannot be locked",
+        HZ_NOT_A_FILE => c"it is a directory, a pipe or a device, and no file",
+        HZ_FILE_READ_ONLY => c"the file is open for reading alone",
+        HZ_LOG_LOST => c"the log failed",
+        _ => c"unknown number",
+    }
+}
+
+/// The text of a refusal by its number alone, without what a fault has beside it.
+pub fn explained(number: u16) -> &'static CStr {
+    match number {
+        0 => c"done",
+        HZ_READ_FAILED => c"a page, or its file, could not be read",
+        HZ_WRITE_FAILED => c"a page could not be written, or its file not be made longer",
+        HZ_WRONG_PAGE => c"another page was found in the place of a page, or a spoilt one",
+        HZ_PAGE_PINNED => c"the page is still fixed",
+        HZ_NOT_A_FILE => c"a directory, a pipe or a device is no page file",
+        _ => text_of(number, true),
     }
 }
 
@@ -238,7 +252,8 @@ impl fmt::Display for hz_pager_fault {
         if self.has_page != 0 {
             write!(f, "page {}: ", self.page)?;
         }
-        f.write_str(text_of(self.number, self.has_page != 0))?;
+        let text = text_of(self.number, self.has_page != 0);
+        f.write_str(text.to_str().unwrap_or_default())?;
         if self.lsn != 0 {
             write!(f, " (LSN {})", self.lsn)?;
         }
@@ -253,20 +268,40 @@ impl fmt::Display for hz_pager_fault {
 mod tests {
     use super::*;
 
+    /// The numbers of all refusals, and 0.
+    fn numbers() -> impl Iterator<Item = u16> {
+        let abi = include_str!("abi.rs").lines();
+        let numbers = abi.filter_map(|line| {
+            let (_, number) = line.strip_prefix("pub const HZ_")?.split_once(": u16 = ")?;
+            number.trim_end_matches(';').parse().ok()
+        });
+        numbers.chain([0])
+    }
+
     /// Each refusal that a pager may answer has a text of its own, which is no text of another.
     #[test]
     fn texts() {
-        let abi = include_str!("abi.rs").lines();
-        let numbers =
-            abi.filter_map(|line| line.strip_prefix("pub const HZ_")?.split_once(": u16 = "));
-        let texts: Vec<_> = numbers
-            .map(|(_, number)| text_of(number.trim_end_matches(';').parse().unwrap_or(0), true))
-            .chain([text_of(0, true), text_of(999, true)])
-            .collect();
-        assert_eq!(texts.len(), 30);
-        for (place, text) in texts.iter().enumerate() {
-            assert!(!texts[..place].contains(text), "{text}");
+        for text in [|number| text_of(number, true), explained] {
+            let texts: Vec<_> = numbers().chain([999]).map(text).collect();
+            assert_eq!(texts.len(), 30);
+            for (place, text) in texts.iter().enumerate() {
+                assert!(!texts[..place].contains(text), "{text:?}");
+            }
+            assert_eq!(texts[29], c"unknown number");
         }
+    }
+
+    /// By its number alone no text speaks of something that stood before it.
+    #[test]
+    fn texts_by_numbers_alone() {
+        for number in numbers() {
+            let text = explained(number).to_str().unwrap_or_default();
+            assert!(!text.is_empty() && !text.starts_with("it "), "{text}");
+        }
+        assert_eq!(
+            explained(HZ_BAD_SETTINGS),
+            c"a setting is out of its limits"
+        );
     }
 
     /// The library below has another version only where it was built so.

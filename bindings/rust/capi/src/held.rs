@@ -1,23 +1,22 @@
-//! The pages that a thread has fixed. Each has a slot with a serial number, which no other page has
+//! The latches that a thread has. Each has a slot with a serial number, which no other page has
 //! or had: so a handle of one that was given back, or of another thread, is known.
 //!
 //! A call looks into the slots of its own thread alone, by the number in the handle. It takes no lock,
-//! and memory only if the thread has more pages than ever before. The first slot is for a latch, and is no
-//! memory of its own: a thread that has one latch at a time finds it at once.
-use crate::abi::{HZ_DEADLOCK, HZ_EXCLUSIVE, HZ_PINNED, HZ_SHARED, HZ_UNKNOWN_PASS, hz_ref};
+//! and memory only if the thread has more latches than ever before. The first slot is no memory of its own: a
+//! thread that has one latch at a time finds it at once.
+use crate::abi::{HZ_DEADLOCK, HZ_EXCLUSIVE, HZ_SHARED, HZ_UNKNOWN_PASS, hz_ref};
 use crate::fault::{Refusal, refusal};
-use crate::{Pager, Place};
-use hojzmated::{Error, Left, PageMut, PagePin, PageRef};
+use crate::{Pager, Place, pins};
+use hojzmated::{Error, Left, PageMut, PageRef};
 use std::cell::Cell;
 use std::mem::ManuallyDrop;
 use std::ptr;
 use std::sync::atomic::{AtomicU64, Ordering};
 use std::sync::{Mutex, MutexGuard, PoisonError};
 
-/// A page that is fixed, or none. Its pager is there as long as it is: it is not freed before.
+/// A page under a latch, or none. Its pager is there as long as it is: it is not freed before.
 pub enum Held {
     None,
-    Pinned(#[expect(dead_code, reason = "it is only dropped")] PagePin<'static>),
     Shared(PageRef<'static>),
     Exclusive(PageMut<'static>),
 }
@@ -27,22 +26,16 @@ impl Held {
     fn how(&self) -> u32 {
         match self {
             Held::None => 0,
-            Held::Pinned(_) => HZ_PINNED,
             Held::Shared(_) => HZ_SHARED,
             Held::Exclusive(_) => HZ_EXCLUSIVE,
         }
     }
 
-    #[inline(always)]
-    fn is_latch(&self) -> bool {
-        matches!(self, Held::Shared(_) | Held::Exclusive(_))
-    }
-
-    /// Where the bytes of the page are, or null without a latch.
+    /// Where the bytes of the page are.
     #[inline(always)]
     fn bytes(&self) -> *const u8 {
         match self {
-            Held::None | Held::Pinned(_) => ptr::null(),
+            Held::None => ptr::null(),
             Held::Shared(page) => page.as_ptr(),
             Held::Exclusive(page) => page.bytes().as_ptr(),
         }
@@ -51,7 +44,7 @@ impl Held {
     /// Whether it is a latch of this page of the pager, or of any page of it where none is told.
     fn is_latch_of(&self, pager: &Pager, page: Option<u64>) -> bool {
         let (is_of, own) = match self {
-            Held::None | Held::Pinned(_) => return false,
+            Held::None => return false,
             Held::Shared(page) => (page.is_of(pager), page.page()),
             Held::Exclusive(page) => (page.is_of(pager), page.page()),
         };
@@ -59,7 +52,7 @@ impl Held {
     }
 }
 
-/// A place for a page that is fixed.
+/// A place for a page that is latched.
 pub struct Slot {
     // Not dropped with the slot: so the table of a thread has nothing to drop.
     held: Cell<ManuallyDrop<Held>>,
@@ -142,7 +135,7 @@ impl Slot {
             Held::Shared(page) => unsafe { ptr::read(page) }.let_go(),
             // SAFETY: as above.
             Held::Exclusive(page) => unsafe { ptr::read(page) }.let_go(),
-            Held::None | Held::Pinned(_) => return None,
+            Held::None => return None,
         };
         self.held.set(ManuallyDrop::new(Held::None));
         self.serial.set(self.serial.get() + 1);
@@ -159,9 +152,9 @@ impl Slot {
 
 /// The slots of a thread.
 struct Table {
-    /// For a latch. Its number is 0.
+    /// Its number is 0.
     first: Slot,
-    /// How many latches are in other slots, and how many callbacks this thread is in.
+    /// How many other slots are taken, and how many callbacks this thread is in.
     in_the_way: Cell<u32>,
     /// The slots from number 1 on: a boxed list, taken apart, which [`End`] drops.
     others: Cell<*mut Slot>,
@@ -272,7 +265,7 @@ impl Table {
 
     /// Keeps a page, and writes its handle to a place. A slot of the list is free.
     fn put(&self, held: Held, page: u64, out: Place<hz_ref>) {
-        if held.is_latch() && !self.first.is_taken() {
+        if !self.first.is_taken() {
             self.first.number();
             return self.first.put(held, page, 0, out);
         }
@@ -280,7 +273,7 @@ impl Table {
         // SAFETY: it is in the list of free slots.
         let slot = unsafe { self.other(number) };
         self.free.set(slot.next_free.get());
-        self.move_in_the_way(i32::from(held.is_latch()));
+        self.move_in_the_way(1);
         slot.number();
         slot.put(held, page, number + 1, out);
     }
@@ -299,11 +292,10 @@ impl Table {
 
     fn give_back(&self, given: &hz_ref) -> Option<()> {
         let slot = self.of(given)?;
-        let is_latch = slot.held().is_latch();
         slot.clear();
         if let Some(number) = given.slot.checked_sub(1) {
             slot.next_free.set(self.free.replace(number));
-            self.move_in_the_way(-i32::from(is_latch));
+            self.move_in_the_way(-1);
         }
         Some(())
     }
@@ -375,12 +367,12 @@ pub fn in_callback<T>(callback: impl FnOnce() -> T) -> T {
     answer
 }
 
-/// Makes sure that this thread can keep one more page.
+/// Makes sure that this thread can keep one more latch.
 pub fn make_room() -> Result<(), Refusal> {
     table().make_room()
 }
 
-/// Keeps a page for this thread, and writes its handle to a place.
+/// Keeps a latch for this thread, and writes its handle to a place.
 pub fn keep(held: Held, page: u64, out: Place<hz_ref>) -> Result<(), Refusal> {
     // A callback may have taken the slot that was free.
     make_room()?;
@@ -402,7 +394,7 @@ pub fn let_go_of_first(given: &hz_ref) -> Option<Left<'static>> {
     table().first.let_go(given)
 }
 
-/// Gives a page back, whichever slot it is in.
+/// Gives a latch back, whichever slot it is in.
 pub fn give_back(given: &hz_ref) -> Result<(), Refusal> {
     let given_back = table().give_back(given);
     given_back.ok_or_else(|| refusal(HZ_UNKNOWN_PASS))
@@ -415,7 +407,12 @@ pub fn with_exclusive<T>(
     given: &hz_ref,
     call: impl FnOnce(Option<&mut PageMut<'static>>) -> T,
 ) -> Result<T, Refusal> {
-    let slot = table().of(given).ok_or_else(|| refusal(HZ_UNKNOWN_PASS))?;
+    let Some(slot) = table().of(given) else {
+        return match pins::has(given) {
+            true => Ok(call(None)),
+            false => Err(refusal(HZ_UNKNOWN_PASS)),
+        };
+    };
     // SAFETY: nothing else refers to it now.
     let page = match unsafe { &mut **slot.held.as_ptr() } {
         Held::Exclusive(page) => Some(page),

@@ -2,7 +2,7 @@
 //! says what each does.
 //!
 //! Each call checks its pointers, makes the call of [`hojzmated::Pager`], and turns what comes of it into
-//! a number. No panic leaves it. What a thread has fixed is in [`held`].
+//! a number. No panic leaves it. The latches that a thread has are in [`held`], and all pins in [`pins`].
 #![allow(non_camel_case_types)]
 // The header has what each call requires.
 #![allow(clippy::missing_safety_doc)]
@@ -24,6 +24,7 @@ mod fault;
 mod header;
 mod held;
 mod observer;
+mod pins;
 mod sized;
 
 use abi::*;
@@ -364,18 +365,22 @@ extern "C" fn write_slowly(
 extern "C" fn fix_otherwise(own: &'static Pager, page: u64, how: u32, out: Place<hz_ref>) -> u16 {
     answer(|| {
         check_outside(own)?;
-        if how | HZ_TRY != TRY_PINNED {
-            held::check_latch(own, page)?;
+        if how | HZ_TRY == TRY_PINNED {
+            let pinned = match how {
+                HZ_PINNED => own.pin(page),
+                _ => own.try_pin(page),
+            };
+            let pin = pinned.map_err(|error| refused_at(page, error))?;
+            return pins::keep(pin, page, out);
         }
+        held::check_latch(own, page)?;
         held::make_room()?;
         match how {
             HZ_SHARED => kept(own.read(page), Held::Shared, page, out),
             HZ_EXCLUSIVE => kept(own.write(page), Held::Exclusive, page, out),
-            HZ_PINNED => kept(own.pin(page), Held::Pinned, page, out),
-            TRY_PINNED => kept(own.try_pin(page), Held::Pinned, page, out),
             TRY_SHARED => kept(had(own.try_read(page)), Held::Shared, page, out),
             TRY_EXCLUSIVE => kept(had(own.try_write(page)), Held::Exclusive, page, out),
-            _ => Err(refused_at(page, Error::BadSettings)),
+            _ => Err(refusal_of(HZ_BAD_SETTINGS, page)),
         }
     })
 }
@@ -462,7 +467,7 @@ fn put_own(
     lsn: u64,
 ) -> Outcome {
     if len > page.bytes().len() {
-        return Err(refused_at(page.page(), Error::OutOfPage));
+        return Err(refusal_of(HZ_OUT_OF_PAGE, page.page()));
     }
     let done = with_scratch(len, |copy| {
         // SAFETY: so many bytes are there, and the scratch is other memory.
@@ -499,7 +504,10 @@ extern "C" fn finish(left: Left<'static>) -> u16 {
 
 #[inline(never)]
 extern "C" fn unfix_otherwise(page: &hz_ref) -> u16 {
-    answer(|| held::give_back(page))
+    answer(|| match pins::is_one(page) {
+        true => pins::give_back(page),
+        false => held::give_back(page),
+    })
 }
 
 #[unsafe(no_mangle)]
@@ -676,6 +684,11 @@ pub unsafe extern "C" fn hz_pager_text(into: *mut c_char, len: usize) -> usize {
         }
     }
     whole.len()
+}
+
+#[unsafe(no_mangle)]
+pub extern "C" fn hz_pager_strerror(number: u16) -> *const c_char {
+    fault::explained(number).as_ptr()
 }
 
 #[unsafe(no_mangle)]

@@ -1,4 +1,6 @@
 //! `Config`: the settings of a core.
+use crate::Error;
+use crate::error::{BAD_GEOMETRY, BAD_SETTINGS};
 
 /// The settings of a pool.
 ///
@@ -60,6 +62,32 @@ impl Config {
     }
 }
 
+impl Config {
+    /// Returns the refusal with which no pool is made: it has the first setting that is out of its limits.
+    pub(super) fn refused(&self, number: u16) -> Error {
+        match (number, self.bad_field()) {
+            (BAD_GEOMETRY | BAD_SETTINGS, Some(field)) => Error::BadSetting { field },
+            _ => Error::numbered(number),
+        }
+    }
+
+    fn bad_field(&self) -> Option<&'static str> {
+        let page_sizes = (16..=65_536).contains(&self.page_size);
+        let fields = [
+            ("pages", (1..=1 << 20).contains(&self.pages)),
+            ("page_size", page_sizes && self.page_size % 16 == 0),
+            ("frames", (1..=1 << 16).contains(&self.frames)),
+            ("room", (1..=1 << 61).contains(&self.room)),
+            ("correlated", self.correlated <= 1 << 62),
+            ("retained", self.retained <= 1 << 62),
+            ("k", (1..=16).contains(&self.k)),
+            ("clients", (1..=64).contains(&self.clients)),
+        ];
+        let bad = fields.into_iter().find(|(_, is_good)| !is_good);
+        bad.map(|(field, _)| field)
+    }
+}
+
 setters! {
     Config:
     with_pages pages: u64,
@@ -70,4 +98,52 @@ setters! {
     with_retained retained: u64,
     with_k k: u8,
     with_clients clients: u8,
+}
+
+#[cfg(test)]
+mod tests {
+    use super::*;
+    use crate::core::Pool;
+
+    /// The least and the greatest value of each setting are taken, and those beyond are refused, with its name
+    /// and the number that C has.
+    #[test]
+    fn limits() {
+        type Change = fn(Config, u64) -> Config;
+        let settings: [(&str, Change, u64, u64); 8] = [
+            ("pages", |it, to| it.with_pages(to), 1, 1 << 20),
+            (
+                "page_size",
+                |it, to| it.with_page_size(to as usize),
+                16,
+                1 << 16,
+            ),
+            ("frames", |it, to| it.with_frames(to as usize), 1, 1 << 16),
+            ("room", |it, to| it.with_room(to as usize), 1, 1 << 61),
+            ("correlated", Config::with_correlated, 0, 1 << 62),
+            ("retained", Config::with_retained, 0, 1 << 62),
+            ("k", |it, to| it.with_k(to as u8), 1, 16),
+            ("clients", |it, to| it.with_clients(to as u8), 1, 64),
+        ];
+        let told = |change: Change, to| {
+            let config = change(Config::new(8, 16, 2), to);
+            Pool::new(&config).map(drop)
+        };
+        for (field, change, least, greatest) in settings {
+            assert_eq!(told(change, least), Ok(()), "{field}");
+            assert_eq!(told(change, greatest), Ok(()), "{field}");
+            let step = if field == "page_size" { 16 } else { 1 };
+            for beyond in [least.checked_sub(step), Some(greatest + step)] {
+                let refused =
+                    beyond.map_or(Err(Error::BadSetting { field }), |to| told(change, to));
+                assert_eq!(refused, Err(Error::BadSetting { field }));
+            }
+        }
+        let uneven = told(|it, to| it.with_page_size(to as usize), 24);
+        assert_eq!(uneven, Err(Error::BadSetting { field: "page_size" }));
+        // The first one, and the number is that of the library.
+        let both = Config::new(8, 16, 2).with_k(0).with_pages(0);
+        let told = Pool::new(&both).map(drop);
+        assert_eq!(told, Err(Error::BadSetting { field: "pages" }));
+    }
 }

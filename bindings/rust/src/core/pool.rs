@@ -2,6 +2,7 @@
 use super::Config;
 use super::lent::{LentPages, PageBytes};
 use super::page::{Grant, PageGuard, Pass, ReadTicket, Refused, WriteTicket};
+use crate::error::{NEED_LOG, OUT_OF_PAGE};
 use crate::sys::{self, hz_config, hz_core, hz_fixed, hz_grant, hz_stats, hz_unsaved};
 use crate::{Error, ReadFault, Result, Totals, UnsavedPage};
 use std::cell::{RefCell, UnsafeCell};
@@ -144,8 +145,7 @@ impl Pool {
     /// Makes a pool with empty frames, whose clock is at 1.
     ///
     /// # Errors
-    /// [`BadGeometry`](Error::BadGeometry) where the number of pages or the page size is out of its
-    /// limits, [`BadSettings`](Error::BadSettings) where another number is,
+    /// [`BadSetting`](Error::BadSetting) where a setting is out of its limits,
     /// [`OutOfMemory`](Error::OutOfMemory), [`VersionMismatch`](Error::VersionMismatch) where the
     /// program was linked with a library whose major or minor version is not this crate's.
     pub fn new(config: &Config) -> Result<Pool> {
@@ -171,7 +171,8 @@ impl Pool {
         core.try_reserve_exact(1).map_err(|_| Error::OutOfMemory)?;
         core.push(UnsafeCell::new(none));
         // SAFETY: both pointers lead to structs of their types, and the handle has no core.
-        Error::check(unsafe { sys::hz_core_new(&asked, core[0].get()) })?;
+        let made = unsafe { sys::hz_core_new(&asked, core[0].get()) };
+        Error::check_as(made, |number| config.refused(number))?;
         let pool = Pool {
             core: core.into_boxed_slice(),
             config: config.clone(),
@@ -230,6 +231,18 @@ impl Pool {
         self.own(&pass.grant, Error::UnknownPass)
     }
 
+    /// Returns the refusal of a call for a page, with a buffer of so many bytes. If it has none, the page is
+    /// what is bad.
+    #[cold]
+    fn refused(&self, number: u16, page: u64, len: usize, lsn: u64) -> Error {
+        match number {
+            NEED_LOG => Error::NeedLog { lsn },
+            OUT_OF_PAGE if page < self.config.pages => Error::BadBuffer { len },
+            OUT_OF_PAGE => Error::NoSuchPage { page },
+            number => Error::numbered(number),
+        }
+    }
+
     fn write_ticket(&self, out: &hz_fixed) -> WriteTicket {
         WriteTicket {
             grant: self.grant_of(&out.grant),
@@ -243,7 +256,7 @@ impl Pool {
     /// # Errors
     /// The first that has cause:
     /// [`BadClient`](Error::BadClient);
-    /// [`OutOfPage`](Error::OutOfPage) where the page is not of the file or the buffer has another
+    /// [`NoSuchPage`](Error::NoSuchPage); [`BadBuffer`](Error::BadBuffer) where the buffer has not the page
     /// size; [`TrailFull`](Error::TrailFull);
     /// [`Busy`](Error::Busy) while the page is being read;
     /// [`NoVictim`](Error::NoVictim);
@@ -255,7 +268,7 @@ impl Pool {
         let (image, len) = (buffer.as_mut_ptr(), buffer.len());
         // SAFETY: the handle is free; the buffer has this length, and all may be written to.
         let number = unsafe { sys::hz_fix(self.core(), client, page, image, len, &mut out) };
-        Error::check_with(number, out.lsn)?;
+        Error::check_as(number, |number| self.refused(number, page, len, out.lsn))?;
         Ok(match out.kind {
             sys::HIT => Fixed::Hit(self.guard_of(&out.grant)),
             sys::LOAD => Fixed::Load {
@@ -275,7 +288,7 @@ impl Pool {
     /// # Errors
     /// The first that has cause:
     /// [`BadClient`](Error::BadClient);
-    /// [`OutOfPage`](Error::OutOfPage) where the page is not of the file or the buffer has another
+    /// [`NoSuchPage`](Error::NoSuchPage); [`BadBuffer`](Error::BadBuffer) where the buffer has not the page
     /// size; [`TrailFull`](Error::TrailFull);
     /// [`Busy`](Error::Busy) while the page is being read or written out;
     /// [`NeedLog`](Error::NeedLog) where the page's log record is not durable yet;
@@ -285,7 +298,7 @@ impl Pool {
         let (image, len) = (buffer.as_mut_ptr(), buffer.len());
         // SAFETY: the handle is free; the buffer has this length, and all may be written to.
         let number = unsafe { sys::hz_flush(self.core(), client, page, image, len, &mut out) };
-        Error::check_with(number, out.lsn)?;
+        Error::check_as(number, |number| self.refused(number, page, len, out.lsn))?;
         Ok(match out.kind {
             sys::WRITE_FIRST => Flushed::WriteFirst(self.write_ticket(&out)),
             sys::CLEAN => Flushed::Clean,
@@ -300,7 +313,7 @@ impl Pool {
     ///
     /// # Errors
     /// The first that has cause:
-    /// [`BadClient`](Error::BadClient); [`OutOfPage`](Error::OutOfPage);
+    /// [`BadClient`](Error::BadClient); [`NoSuchPage`](Error::NoSuchPage);
     /// [`TrailFull`](Error::TrailFull);
     /// [`Busy`](Error::Busy) while the page is being read or written out;
     /// [`PagePinned`](Error::PagePinned) while a pass of it is out.
@@ -308,7 +321,7 @@ impl Pool {
         let mut was_resident = 0;
         // SAFETY: the handle is free, and the flag may be written to.
         let number = unsafe { sys::hz_discard(self.core(), client, page, &mut was_resident) };
-        Error::check(number)?;
+        Error::check_as(number, |number| self.refused(number, page, 0, 0))?;
         Ok(was_resident != 0)
     }
 
@@ -316,7 +329,7 @@ impl Pool {
     ///
     /// # Errors
     /// The ticket comes back, and is still out where it was:
-    /// [`OutOfPage`](Error::OutOfPage) where the image has another size;
+    /// [`BadBuffer`](Error::BadBuffer) where the image has not the page size;
     /// [`UnknownTicket`](Error::UnknownTicket) for one of another pool;
     /// [`OutOfMemory`](Error::OutOfMemory).
     #[inline]
@@ -336,7 +349,11 @@ impl Pool {
         self.apart(image, |image| {
             let (bytes, len) = (image.as_ptr(), image.len());
             // SAFETY: the handle is free; the image has this length; the pass may be written to.
-            Error::check(unsafe { sys::hz_read_end(self.core(), &grant, bytes, len, &mut pass) })
+            let ended = unsafe { sys::hz_read_end(self.core(), &grant, bytes, len, &mut pass) };
+            Error::check_as(ended, |number| match number {
+                OUT_OF_PAGE => Error::BadBuffer { len },
+                number => Error::numbered(number),
+            })
         })?;
         Ok(pass)
     }
@@ -487,7 +504,8 @@ impl Pool {
         let (bytes, len) = (into.as_mut_ptr(), into.len());
         // SAFETY: the handle is free, the pass a grant, and `into` has this length and may be
         // written to.
-        Error::check(unsafe { sys::hz_read(self.core(), &grant, offset, bytes, len) })
+        let number = unsafe { sys::hz_read(self.core(), &grant, offset, bytes, len) };
+        Error::check_as(number, |number| Error::of_bytes(number, offset, len))
     }
 
     /// Writes bytes into a pass's page from the offset on, under the log record with this LSN. The
@@ -522,7 +540,8 @@ impl Pool {
         let (from, len) = (bytes.as_ptr(), bytes.len());
         // SAFETY: the handle is free, the pass a grant, and `bytes` has this length. No reference leads
         // to what is written: none of the page is lent, or who calls has it alone.
-        Error::check(unsafe { sys::hz_write(self.core(), &grant, offset, from, len, lsn) })
+        let number = unsafe { sys::hz_write(self.core(), &grant, offset, from, len, lsn) };
+        Error::check_as(number, |number| Error::of_bytes(number, offset, len))
     }
 
     /// Moves the clock on by `n`. A page can be evicted once the clock has moved by more than the
@@ -617,11 +636,12 @@ impl Pool {
     /// Returns true if the page is in a frame.
     ///
     /// # Errors
-    /// [`OutOfPage`](Error::OutOfPage) where the file has no such page.
+    /// [`NoSuchPage`](Error::NoSuchPage).
     pub fn is_resident(&self, page: u64) -> Result<bool> {
         let mut is_resident = 0;
         // SAFETY: the handle is free, and the answer may be written to.
-        Error::check(unsafe { sys::hz_is_resident(self.core(), page, &mut is_resident) })?;
+        let number = unsafe { sys::hz_is_resident(self.core(), page, &mut is_resident) };
+        Error::check_as(number, |number| self.refused(number, page, 0, 0))?;
         Ok(is_resident != 0)
     }
 

@@ -164,12 +164,15 @@ impl PagerConfig {
     /// divide evenly.
     pub(super) fn of_part(&self, part: usize) -> Result<Config> {
         let parts = self.parts;
-        let is_good = (1..=MOST_PARTS).contains(&parts)
-            && parts <= self.frames
-            && parts as u64 <= self.pages.max(1)
-            && self.correlated.max(self.retained) <= LONGEST;
-        if !is_good {
-            return Err(Error::BadSettings);
+        let is_within = (1..=MOST_PARTS).contains(&parts) && parts as u64 <= self.pages.max(1);
+        let bad = [
+            ("frames", self.frames == 0),
+            ("parts", !is_within || parts > self.frames),
+            ("correlated", self.correlated > LONGEST),
+            ("retained", self.retained > LONGEST),
+        ];
+        if let Some((field, _)) = bad.into_iter().find(|(_, is_bad)| *is_bad) {
+            return Err(Error::BadSetting { field });
         }
         let of = parts as u64;
         Ok(Config {

@@ -21,7 +21,7 @@ impl<F: PageIo> Pager<F> {
     /// [`new_page`](Pager::new_page), and its first record has all of its bytes.
     ///
     /// # Errors
-    /// [`PagerError::Refused`] with [`OutOfPage`](Error::OutOfPage) where the file has no such page;
+    /// [`PagerError::Refused`] with [`NoSuchPage`](Error::NoSuchPage) where the file has no such page;
     /// [`PagePinned`](Error::PagePinned) where a guard of the page was there for too long;
     /// [`Busy`](Error::Busy) in a function of the engine. Then nothing has changed.
     pub fn discard(&self, page: u64) -> Result<bool, PagerError> {
@@ -35,13 +35,13 @@ impl<F: PageIo> Pager<F> {
     /// # Errors
     /// [`PagerError::RefusedPage`] with those of [`discard`](Pager::discard), of the first page that
     /// is refused: those before it were dropped, and it and those after it were not.
-    /// [`PagerError::Refused`] with [`OutOfPage`](Error::OutOfPage) where the file has not all of them:
+    /// [`PagerError::Refused`] with [`NoSuchPage`](Error::NoSuchPage) where the file has not all of them:
     /// then none was dropped.
     pub fn discard_from(&self, first: u64, count: u64) -> Result<u64, PagerError> {
-        let end = first.checked_add(count).ok_or(Error::OutOfPage)?;
-        if end > self.config().pages {
-            return Err(Error::OutOfPage.into());
-        }
+        let pages = self.config().pages;
+        let end = first.checked_add(count).filter(|end| *end <= pages);
+        let page = first.max(pages);
+        let end = end.ok_or(Error::NoSuchPage { page })?;
         (first..end).try_fold(0, |resident, page| match self.discard(page) {
             Ok(was_resident) => Ok(resident + u64::from(was_resident)),
             Err(fault) => {

@@ -2,6 +2,7 @@
 use super::PagerConfig;
 use super::ahead::Ahead;
 use super::aside::{Failed, Unlogged};
+use super::closing::Parts;
 use super::faults::Fault;
 use super::guards::{PageMut, PagePin, PageRef};
 use super::line::Patience;
@@ -164,10 +165,12 @@ use std::sync::atomic::{AtomicU64, AtomicUsize, Ordering};
 /// and those whose records were durable before go out.
 ///
 /// Where the device or the log panics, so does the call. A later one chooses another victim: the next one,
-/// or with a correlated period of 0 one after up to K such calls. Where the pager is dropped, pages that
-/// were not written out are lost.
+/// or with a correlated period of 0 one after up to K such calls.
+///
+/// [`close`](Pager::close) saves all, and gives the device and log back. Where the pager is dropped, pages that
+/// were not written out are lost: in a program with debug assertions a line on standard error says so, once.
 pub struct Pager<F> {
-    pub(super) parts: Box<[Part]>,
+    pub(super) parts: Parts,
     /// If the number of parts is a power of two, its exponent.
     shift: Option<u32>,
     pub(super) watch: Watch,
@@ -206,9 +209,8 @@ impl<F> Pager<F> {
     /// Makes a pager with empty frames.
     ///
     /// # Errors
-    /// [`BadSettings`](Error::BadSettings) where the number of parts or another setting is out of
-    /// its limits; [`BadGeometry`](Error::BadGeometry) where the number of pages or the page size
-    /// is; [`OutOfMemory`](Error::OutOfMemory).
+    /// [`BadSetting`](Error::BadSetting) where a setting is out of its limits;
+    /// [`OutOfMemory`](Error::OutOfMemory).
     pub fn new(config: &PagerConfig, io: F) -> Result<Pager<F>> {
         config.of_part(0)?;
         let number = NUMBERS.fetch_add(1, Ordering::Relaxed);
@@ -219,7 +221,7 @@ impl<F> Pager<F> {
         }
         let is_power = config.parts.is_power_of_two();
         Ok(Pager {
-            parts: parts.into_boxed_slice(),
+            parts: Parts::new(parts),
             shift: is_power.then(|| config.parts.ilog2()),
             watch,
             log: Log::default(),
@@ -241,8 +243,10 @@ impl<F> Pager<F> {
         &self.io
     }
 
-    /// Gives the device and log back. Pages that were not written out are lost.
-    pub fn into_io(self) -> F {
+    /// Gives the device and log back. Pages that were not written out are lost: [`close`](Pager::close) saves
+    /// them.
+    pub fn into_io(mut self) -> F {
+        self.parts.be_quiet();
         self.io
     }
 
@@ -259,7 +263,7 @@ impl<F> Pager<F> {
     #[inline]
     pub(super) fn place(&self, page: u64) -> Result<(&Part, u64)> {
         if page >= self.config.pages {
-            return Err(Error::OutOfPage);
+            return Err(Error::NoSuchPage { page });
         }
         Ok(self.place_of_any(page))
     }
@@ -284,6 +288,45 @@ impl<F> Pager<F> {
         };
         (&self.parts[part as usize], own)
     }
+
+    /// Returns a page under its shared latch, if it is in a frame and that latch is free: else None, also where the
+    /// file has no such page, or the page has 524,288 guards.
+    ///
+    /// It never waits: for no latch and no pin, for no device and no log. It takes the lock of the page's part for a
+    /// moment at most, and nobody waits under that. So a task of an async runtime may call it; what comes
+    /// of None is for a thread that may wait, as `docs/RUST.md` of the repository shows. It is a reference as
+    /// [`read`](Pager::read) is, where it gives the page.
+    ///
+    /// ```
+    /// # use hojzmated::{PageIo, ReadFault, PagerConfig, Pager};
+    /// # struct Zeros;
+    /// # impl PageIo for Zeros {
+    /// #     fn read_page(&self, _: u64, image: &mut [u8]) -> Result<(), ReadFault> { Ok(image.fill(0)) }
+    /// #     fn write_page(&self, _: u64, _: &mut [u8], _: u64) -> std::io::Result<()> { Ok(()) }
+    /// #     fn make_log_durable(&self, _: u64) -> std::io::Result<()> { Ok(()) }
+    /// #     fn sync(&self) -> std::io::Result<()> { Ok(()) }
+    /// # }
+    /// # fn main() -> Result<(), hojzmated::PagerError> {
+    /// # let pager = Pager::new(&PagerConfig::new(100, 4096, 8), Zeros)?;
+    /// assert!(pager.read_resident(7).is_none());
+    /// pager.write(7)?.put(0, b"seven", 0)?;
+    /// let page = pager.read_resident(7);
+    /// assert!(page.is_some_and(|page| page[..5] == *b"seven"));
+    /// # Ok(())
+    /// # }
+    /// ```
+    pub fn read_resident(&self, page: u64) -> Option<PageRef<'_>> {
+        let (part, own) = self.place(page).ok()?;
+        let missed = match part.join_read(own) {
+            Ok(page) => return Some(page),
+            Err(missed) => missed,
+        };
+        match part.join_read_slowly(own, missed) {
+            Joined::Latched(page) => Some(page),
+            Joined::Pinned(pin) => pin.try_into_read(),
+            Joined::Not => part.pin_resident(own)?.try_into_read(),
+        }
+    }
 }
 
 impl<F: PageIo> Pager<F> {
@@ -294,7 +337,7 @@ impl<F: PageIo> Pager<F> {
     /// [`PagerError::Read`] where the device failed. [`PagerError::Write`], [`PagerError::Log`],
     /// [`PagerError::LogNotYet`] and [`PagerError::LogLost`] where no page could make way, since the device or
     /// the log failed for one of them, which is told.
-    /// [`PagerError::Refused`] with [`OutOfPage`](Error::OutOfPage) where the file has
+    /// [`PagerError::Refused`] with [`NoSuchPage`](Error::NoSuchPage) where the file has
     /// no such page; [`NoVictim`](Error::NoVictim) where all possible victims were pinned for too
     /// long; [`PagerError::WrongPage`] where another page was found in the page's place, and
     /// [`PagerError::Spoilt`] where it is torn or spoilt;

@@ -314,6 +314,23 @@ impl AsRef<[u8]> for PageRef<'_> {
     }
 }
 
+/// The bytes as they are: they are changed by [`put`](PageMut::put) and what is like it alone.
+impl Deref for PageMut<'_> {
+    type Target = [u8];
+
+    #[inline]
+    fn deref(&self) -> &[u8] {
+        self.bytes()
+    }
+}
+
+impl AsRef<[u8]> for PageMut<'_> {
+    #[inline]
+    fn as_ref(&self) -> &[u8] {
+        self
+    }
+}
+
 impl<'a> PageMut<'a> {
     #[inline]
     pub(super) fn new(share: Share<'a, WRITER>) -> PageMut<'a> {
@@ -444,7 +461,7 @@ impl<'a> PageMut<'a> {
         change: impl FnOnce(&mut [u8]) -> T,
     ) -> Result<T> {
         let Share { part, seat } = self.0;
-        let range = within(range, part.page_size).ok_or(Error::OutOfPage)?;
+        let range = within(range, part.page_size)?;
         let before = &self.bytes()[range.clone()];
         let mut few = [0; FEW];
         if let Some(copy) = few.get_mut(..before.len()) {
@@ -474,19 +491,27 @@ thread_local! {
     static COPY: Cell<Vec<u8>> = const { Cell::new(Vec::new()) };
 }
 
-/// Returns the range within a page of this size. None where it is not.
-fn within(range: impl RangeBounds<usize>, page_size: usize) -> Option<Range<usize>> {
-    let start = match range.start_bound() {
+/// Returns the range within a page of this size.
+///
+/// # Errors
+/// [`Error::OutOfPage`] where it is not.
+fn within(range: impl RangeBounds<usize>, page_size: usize) -> Result<Range<usize>> {
+    let offset = match range.start_bound() {
         Bound::Included(start) => *start,
-        Bound::Excluded(before) => before.checked_add(1)?,
+        Bound::Excluded(before) => before.saturating_add(1),
         Bound::Unbounded => 0,
     };
     let end = match range.end_bound() {
-        Bound::Included(last) => last.checked_add(1)?,
-        Bound::Excluded(end) => *end,
-        Bound::Unbounded => page_size,
+        Bound::Included(last) => last.checked_add(1),
+        Bound::Excluded(end) => Some(*end),
+        Bound::Unbounded => Some(page_size),
     };
-    (start <= end && end <= page_size).then_some(start..end)
+    let len = end.and_then(|end| end.checked_sub(offset));
+    let len = len.unwrap_or(usize::MAX);
+    match offset.checked_add(len) {
+        Some(end) if end <= page_size => Ok(offset..end),
+        _ => Err(Error::OutOfPage { offset, len }),
+    }
 }
 
 macro_rules! debug_of {

@@ -2,6 +2,7 @@
 mod ahead;
 mod aside;
 mod away;
+mod closing;
 mod config;
 mod discard;
 mod faults;
@@ -29,6 +30,7 @@ mod work;
 mod write_outs;
 
 pub use ahead::Readers;
+pub use closing::NotClosed;
 pub use config::PagerConfig;
 pub use fixing::Pager;
 pub use guards::{Left, PageMut, PagePin, PageRef};

@@ -161,6 +161,23 @@ impl<F> AsRef<[u8]> for OwnedRef<F> {
     }
 }
 
+/// The bytes as they are, as of a [`PageMut`].
+impl<F> Deref for OwnedMut<F> {
+    type Target = [u8];
+
+    #[inline]
+    fn deref(&self) -> &[u8] {
+        self.bytes()
+    }
+}
+
+impl<F> AsRef<[u8]> for OwnedMut<F> {
+    #[inline]
+    fn as_ref(&self) -> &[u8] {
+        self
+    }
+}
+
 impl<F> OwnedMut<F> {
     /// The number of the page.
     pub fn page(&self) -> u64 {

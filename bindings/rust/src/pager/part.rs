@@ -334,12 +334,13 @@ impl Part {
 
     /// Writes to many places of a pinned page, or to none where one is not within it.
     pub(super) fn write_each(&self, seat: &Seat, parts: &[(usize, &[u8])], lsn: u64) -> Result<()> {
-        let is_within = |(offset, bytes): &(usize, &[u8])| {
+        let is_beyond = |(offset, bytes): &&(usize, &[u8])| {
             let rest = self.page_size.checked_sub(*offset);
-            rest.is_some_and(|rest| bytes.len() <= rest)
+            rest.is_none_or(|rest| bytes.len() > rest)
         };
-        if !parts.iter().all(is_within) {
-            return Err(Error::OutOfPage);
+        if let Some((offset, bytes)) = parts.iter().find(is_beyond) {
+            let (offset, len) = (*offset, bytes.len());
+            return Err(Error::OutOfPage { offset, len });
         }
         let mut state = self.lock();
         for (offset, bytes) in parts {
@@ -366,7 +367,10 @@ impl Part {
                 copy.copy_from_slice(bytes);
                 self.write_apart(state, seat, offset, copy, lsn)
             }
-            None => Err(Error::OutOfPage),
+            None => Err(Error::OutOfPage {
+                offset,
+                len: bytes.len(),
+            }),
         };
         state.scratch = scratch;
         written

@@ -289,6 +289,19 @@ impl Part {
         self.with_pin(state, seat, before)
     }
 
+    /// Pins a page if it is in a frame, without waiting.
+    #[cold]
+    pub(super) fn pin_resident(&self, page: u64) -> Option<PagePin<'_>> {
+        let mut state = self.lock();
+        if let Some(seat) = self.out_under(page) {
+            return self.join_under(state, seat).ok();
+        }
+        self.seats.of(page)?;
+        self.tick_for_call(&mut state).ok()?;
+        let pass = self.hit(&mut state, page)?.into_pass();
+        self.pinned(state, pass, Came::Here).ok()
+    }
+
     /// Pins a page that is in a frame, for the pager itself. The lock is opened.
     pub(super) fn pin_under<'a>(&'a self, mut state: Locked<'a>, page: u64) -> Result<PagePin<'a>> {
         let seat = self.seats.of(page).map(|number| self.seats.seat(number));

@@ -61,7 +61,7 @@ impl<F> Pager<F> {
             waits: self.log.waits() + self.syncs.waits(),
             ..Stats::default()
         };
-        for part in &self.parts {
+        for part in self.parts.iter() {
             let state = part.lock();
             let (config, counts) = (state.pool.config(), state.pool.stats());
             stats.memory += config.pages as usize * OF_PAGE + config.frames * OF_FRAME;

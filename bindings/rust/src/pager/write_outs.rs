@@ -35,7 +35,7 @@ impl<F> Pager<F> {
     /// The same of those of which is so what is asked of the least LSN with a record.
     fn unsaved_of(&self, is_meant: impl Fn(Option<u64>) -> bool) -> Result<Vec<UnsavedPage>> {
         let mut pages = list_of(0)?;
-        for part in &self.parts {
+        for part in self.parts.iter() {
             let mut from = Some(0);
             while let Some(first) = from {
                 // Memory is asked for with the lock open.
@@ -147,7 +147,7 @@ impl<F: PageIo> Pager<F> {
     /// After each of these the page is unsaved. [`PagerError::Write`] where the device failed;
     /// [`PagerError::Log`] where the log failed, and [`PagerError::LogLost`] where it had failed before and
     /// the page has a record that was not durable then; [`PagerError::LogNotYet`] where the log does not
-    /// reach that record yet. [`PagerError::Refused`] with [`OutOfPage`](Error::OutOfPage) where the file
+    /// reach that record yet. [`PagerError::Refused`] with [`NoSuchPage`](Error::NoSuchPage) where the file
     /// has no such page, with [`OutOfMemory`](Error::OutOfMemory), and in a function of [`PageIo`]
     /// with [`Busy`](Error::Busy).
     pub fn flush(&self, page: u64) -> Result<(), PagerError> {
@@ -254,7 +254,7 @@ impl<F: PageIo> Pager<F> {
     ///
     /// # Errors
     /// The first of those of [`Pager::flush`], after which all pages are written out that could
-    /// be. With [`OutOfPage`](Error::OutOfPage) and [`OutOfMemory`](Error::OutOfMemory) it may be
+    /// be. With [`NoSuchPage`](Error::NoSuchPage) and [`OutOfMemory`](Error::OutOfMemory) it may be
     /// that none was.
     pub fn flush_pages(&self, pages: &[u64]) -> Result<(), PagerError> {
         let mut unsaved: Vec<UnsavedPage> = list_of(pages.len())?;
@@ -276,7 +276,7 @@ impl<F: PageIo> Pager<F> {
     /// which tells from where redo has to begin.
     ///
     /// # Errors
-    /// Those of [`flush_pages`](Pager::flush_pages), but for `OutOfPage`.
+    /// Those of [`flush_pages`](Pager::flush_pages), but for `NoSuchPage`.
     pub fn flush_before(&self, lsn: u64) -> Result<(), PagerError> {
         let is_older = |first: Option<u64>| first.is_some_and(|first| first < lsn);
         self.flush_all(&self.unsaved_of(is_older)?)

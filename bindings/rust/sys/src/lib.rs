@@ -3,7 +3,7 @@
 #![cfg_attr(not(test), no_std)]
 #![allow(non_camel_case_types)]
 
-use core::ffi::c_void;
+use core::ffi::{c_char, c_void};
 
 /// The text of the header.
 pub const HEADER: &str = include_str!(env!("HOJZMATED_HEADER"));
@@ -150,6 +150,7 @@ unsafe extern "C" {
     pub fn hz_stats_of(core: *mut hz_core, out: *mut hz_stats, size: usize) -> u16;
     pub fn hz_is_resident(core: *mut hz_core, page: u64, is_resident: *mut u8) -> u16;
     pub fn hz_text(number: u16, into: *mut u8, len: usize) -> usize;
+    pub safe fn hz_strerror(number: u16) -> *const c_char;
     pub safe fn hz_version() -> u32;
 }
 
@@ -205,7 +206,7 @@ mod tests {
     fn names_in<'a>(lines: impl Iterator<Item = &'a str>) -> Vec<&'a str> {
         let mut names: Vec<&str> = lines
             .filter_map(|line| line.split_once('('))
-            .filter_map(|(before, _)| before.split(' ').next_back())
+            .filter_map(|(before, _)| before.split([' ', '*']).next_back())
             .filter(|name| name.starts_with("hz_"))
             .collect();
         names.sort_unstable();

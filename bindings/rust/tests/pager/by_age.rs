@@ -395,7 +395,7 @@ fn flush_of_a_list() {
     let asked = [Asked::Log(9), Asked::Write(3, 3, 3), Asked::Write(9, 9, 9)];
     assert_eq!(pager.io().asked(), asked);
     let told = pager.flush_pages(&[1, PAGES]).unwrap_err();
-    assert_eq!(told.refusal(), Error::OutOfPage);
+    assert_eq!(told.refusal(), Error::NoSuchPage { page: PAGES });
     pager.flush_pages(&[]).unwrap();
     assert_eq!(pager.stats().unsaved, 2);
 }

@@ -209,9 +209,14 @@ fn range_of_pages() {
     assert_eq!(pager.discard_from(2, 8).unwrap(), 4);
     assert_eq!(pager.redo_from(), Some(1));
     assert_eq!(pager.stats().resident, 2);
-    assert_eq!(refusal(pager.discard_from(0, PAGES + 1)), Error::OutOfPage);
-    assert_eq!(refusal(pager.discard_from(1, u64::MAX)), Error::OutOfPage);
-    assert_eq!(refusal(pager.discard(PAGES)), Error::OutOfPage);
+    let no_such = |page| Error::NoSuchPage { page };
+    let told = refusal(pager.discard_from(0, PAGES + 1));
+    assert_eq!(told, no_such(PAGES));
+    let told = refusal(pager.discard_from(1, u64::MAX));
+    assert_eq!(told, no_such(PAGES));
+    let told = refusal(pager.discard_from(PAGES + 3, 1));
+    assert_eq!(told, no_such(PAGES + 3));
+    assert_eq!(refusal(pager.discard(PAGES)), no_such(PAGES));
     assert_eq!(pager.discard_from(PAGES, 0).unwrap(), 0);
     assert_eq!(pager.stats().resident, 2);
     let guard = pager.pin(1).unwrap();

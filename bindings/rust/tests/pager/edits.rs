@@ -2,6 +2,7 @@
 use crate::device::{Asked, Device, SIZE, config, pager};
 use hojzmated::{Error, LogFault, Pager};
 use std::cell::RefCell;
+use std::ops::Bound;
 use std::panic::{AssertUnwindSafe, catch_unwind};
 use std::sync::Arc;
 use std::thread;
@@ -133,13 +134,22 @@ fn edit_out_of_the_page() {
     let pager = pager(2);
     let mut page = pager.write(1).unwrap();
     let was_called = |_: &mut [u8]| panic!("it is not called");
-    assert_eq!(page.edit(0..SIZE + 1, 1, was_called), Err(Error::OutOfPage));
-    assert_eq!(page.edit(SIZE + 1.., 1, was_called), Err(Error::OutOfPage));
-    let beyond = 5..=usize::MAX;
-    assert_eq!(page.edit(beyond, 1, was_called), Err(Error::OutOfPage));
+    let beyond = |offset, len| Err(Error::OutOfPage { offset, len });
+    let told = page.edit(0..SIZE + 1, 1, was_called);
+    assert_eq!(told, beyond(0, SIZE + 1));
+    let told = page.edit(SIZE - 1..=SIZE, 1, was_called);
+    assert_eq!(told, beyond(SIZE - 1, 2));
+    let told = page.edit(SIZE + 1.., 1, was_called);
+    assert_eq!(told, beyond(SIZE + 1, usize::MAX));
+    let told = page.edit(5..=usize::MAX, 1, was_called);
+    assert_eq!(told, beyond(5, usize::MAX));
     #[allow(clippy::reversed_empty_ranges)]
     let reversed = 5..4;
-    assert_eq!(page.edit(reversed, 1, was_called), Err(Error::OutOfPage));
+    let told = page.edit(reversed, 1, was_called);
+    assert_eq!(told, beyond(5, usize::MAX));
+    let after_all = (Bound::Excluded(usize::MAX), Bound::Unbounded);
+    let told = page.edit(after_all, 1, was_called);
+    assert_eq!(told, beyond(usize::MAX, usize::MAX));
     assert_eq!(page.edit(SIZE.., 1, |bytes| bytes.len()), Ok(0));
 }
 
@@ -201,7 +211,8 @@ fn many_puts_at_once() {
     // One is not within the page: so none is put.
     for bad in [(SIZE, &own[..1]), (1, &own[..]), (usize::MAX, &own[..2])] {
         let told = page.put_each(&[(0, &[77]), bad, (1, &[77])], 8);
-        assert_eq!(told, Err(Error::OutOfPage));
+        let (offset, len) = (bad.0, bad.1.len());
+        assert_eq!(told, Err(Error::OutOfPage { offset, len }));
     }
     page.put_each(&[], 8).unwrap();
     assert_eq!(page.bytes(), wanted);

@@ -2,6 +2,7 @@
 mod ahead;
 mod by_age;
 mod calls;
+mod closing;
 mod device;
 mod discard;
 mod edits;
@@ -24,6 +25,7 @@ mod owned;
 mod panics;
 mod refusals;
 mod remembered;
+mod resident;
 mod rows;
 mod served;
 mod spread;

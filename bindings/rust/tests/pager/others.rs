@@ -227,17 +227,15 @@ fn limits_of_the_whole() {
     let usual = PagerConfig::new(10, 64, 4);
     let page_size = usize::MAX - 15;
     let config = usual.clone().with_page_size(page_size);
-    assert_eq!(new(config), Err(Error::BadGeometry));
+    let bad = |field| Err(Error::BadSetting { field });
+    assert_eq!(new(config), bad("page_size"));
     for parts in [1, 4] {
         let (correlated, retained) = (u64::MAX, (1 << 62) + 1);
         let config = usual.clone();
         let config = config.with_parts(parts);
-        for config in [
-            config.clone().with_correlated(correlated),
-            config.with_retained(retained),
-        ] {
-            assert_eq!(new(config), Err(Error::BadSettings));
-        }
+        let told = new(config.clone().with_correlated(correlated));
+        assert_eq!(told, bad("correlated"));
+        assert_eq!(new(config.with_retained(retained)), bad("retained"));
     }
     // So many pages want forty parts, and each part a frame.
     let config = PagerConfig::new(40 << 20, 16, 50);

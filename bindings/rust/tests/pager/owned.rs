@@ -29,7 +29,11 @@ fn guards_keep_their_pager() {
     page.put(0, &[3], 5).unwrap();
     page.put_each(&[(1, &[4]), (2, &[5])], 6).unwrap();
     assert_eq!(page.edit(3..5, 7, |bytes| bytes.fill(6)), Ok(()));
-    assert_eq!(page.put(SIZE, &[1], 7), Err(Error::OutOfPage));
+    let (offset, len) = (SIZE, 1);
+    assert_eq!(
+        page.put(SIZE, &[1], 7),
+        Err(Error::OutOfPage { offset, len })
+    );
     assert_eq!(page.bytes()[..6], [3, 4, 5, 6, 6, 0]);
     assert_eq!((page.page(), page.lsn()), (3, 7));
     drop(page);

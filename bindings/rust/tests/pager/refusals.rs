@@ -1,8 +1,10 @@
 //! What each call says where it cannot be done, and that nothing is lost by it.
 use crate::device::{Asked, Device, Fate, PAGES, SIZE, config, pager, put, with_an_unsaved_page};
-use hojzmated::{Error, Pager, PagerConfig, PagerError};
+use hojzmated::{Error, Pager, PagerConfig, PagerError, ReadFault};
 use std::error::Error as _;
+use std::io::{self, ErrorKind};
 use std::panic::{AssertUnwindSafe, catch_unwind};
+use std::sync::Arc;
 use std::time::{Duration, Instant};
 
 type Call = fn(&Pager<Device>) -> Result<(), PagerError>;
@@ -26,7 +28,7 @@ fn page_that_the_file_has_not() {
             refusal(pager.new_page(page)),
             refusal(pager.flush(page)),
         ];
-        assert_eq!(told, [Some(Error::OutOfPage); 8]);
+        assert_eq!(told, [Some(Error::NoSuchPage { page }); 8]);
         assert!(!pager.is_resident(page));
     }
     assert_eq!(pager.io().asked(), []);
@@ -39,12 +41,65 @@ fn bytes_that_the_page_has_not() {
     page.put(0, &[7; SIZE], 1).unwrap();
     for (offset, len) in [(1, SIZE), (SIZE, 1), (usize::MAX, 1), (0, SIZE + 1)] {
         let told = page.put(offset, &vec![8; len], 2);
-        assert_eq!(told, Err(Error::OutOfPage));
+        assert_eq!(told, Err(Error::OutOfPage { offset, len }));
         assert_eq!(page.bytes(), [7; SIZE]);
     }
     drop(page);
     pager.flush(1).unwrap();
     assert_eq!(pager.io().asked().last(), Some(&Asked::Write(1, 7, 1)));
+}
+
+// As an error of the system it has the kind of the device's own fault, or that of a refusal, and is within.
+#[test]
+fn errors_of_the_system() {
+    let pager = pager(1);
+    pager.io().ends_as(|asked| match asked {
+        Asked::Read(_) => Err(ReadFault::Device(ErrorKind::TimedOut.into())),
+        _ => Ok(()),
+    });
+    let error = io::Error::from(pager.read(1).map(drop).unwrap_err());
+    assert_eq!(error.kind(), ErrorKind::TimedOut);
+    assert_eq!(error.to_string(), "page 1 could not be read");
+    let source = error.source().and_then(|it| it.downcast_ref());
+    assert_eq!(source.map(io::Error::kind), Some(ErrorKind::TimedOut));
+    let within = error.downcast::<PagerError>().unwrap();
+    assert!(matches!(within, PagerError::Read { page: 1, .. }));
+    // By `?`.
+    let ends = || -> io::Result<()> {
+        pager.write(PAGES)?.put(0, &[1], 1)?;
+        Ok(())
+    };
+    assert_eq!(ends().unwrap_err().kind(), ErrorKind::InvalidInput);
+    for (error, kind) in [
+        (PagerError::WrongPage { page: 1 }, ErrorKind::InvalidData),
+        (PagerError::Spoilt { page: 1 }, ErrorKind::InvalidData),
+        (PagerError::SyncFailedBefore, ErrorKind::Other),
+        (Error::OutOfMemory.into(), ErrorKind::OutOfMemory),
+        (Error::NoVictim.into(), ErrorKind::ResourceBusy),
+        (Error::Deadlock.into(), ErrorKind::Deadlock),
+        (bad("k").into(), ErrorKind::InvalidInput),
+        (Error::ClockFull.into(), ErrorKind::Other),
+    ] {
+        assert_eq!(io::Error::from(error).kind(), kind);
+    }
+    assert_eq!(io::Error::from(Error::Busy).kind(), ErrorKind::ResourceBusy);
+}
+
+// A page that is had alone is looked at as one that is shared.
+#[test]
+fn bytes_of_a_page_alone() {
+    fn sum(bytes: impl AsRef<[u8]>) -> u64 {
+        bytes.as_ref().iter().map(|it| u64::from(*it)).sum()
+    }
+    let pager = Arc::new(pager(1));
+    let mut page = pager.write(1).unwrap();
+    page.put(2, &[3, 4], 0).unwrap();
+    assert_eq!((page.len(), &page[1..5]), (SIZE, &[0, 3, 4, 0][..]));
+    assert_eq!(sum(page), 7);
+    let mut page = pager.write_owned(1).unwrap();
+    page.put(0, &[1], 0).unwrap();
+    assert_eq!((page.len(), &page[..4]), (SIZE, &[1, 0, 3, 4][..]));
+    assert_eq!(sum(page), 8);
 }
 
 // By whichever call. Once a guard is dropped another one is had, and once all are the page is as any.
@@ -72,6 +127,10 @@ fn too_many_guards_of_a_page() {
     assert_eq!(pager.stats().pinned, 0);
 }
 
+fn bad(field: &'static str) -> Error {
+    Error::BadSetting { field }
+}
+
 fn told_of(config: &PagerConfig) -> Result<(), Error> {
     Pager::new(config, Device::default()).map(drop)
 }
@@ -79,59 +138,66 @@ fn told_of(config: &PagerConfig) -> Result<(), Error> {
 #[test]
 fn numbers_of_parts() {
     for (parts, told) in [
-        (0, Err(Error::BadSettings)),
+        (0, Err(bad("parts"))),
         (1, Ok(())),
         (64, Ok(())),
-        (65, Err(Error::BadSettings)),
-        (usize::MAX, Err(Error::BadSettings)),
+        (65, Err(bad("parts"))),
+        (usize::MAX, Err(bad("parts"))),
     ] {
         let good = PagerConfig::new(100, SIZE, 100);
         assert_eq!(told_of(&good.with_parts(parts)), told, "{parts}");
     }
     // No more than frames, or pages.
-    for (pages, frames) in [(2, 3), (3, 2), (100, 0)] {
+    for (pages, frames, field) in [(2, 3, "parts"), (3, 2, "parts"), (100, 0, "frames")] {
         let good = PagerConfig::new(pages, SIZE, frames);
         let told = told_of(&good.with_parts(3));
-        assert_eq!(
-            told,
-            Err(Error::BadSettings),
-            "{pages} pages, {frames} frames"
-        );
+        assert_eq!(told, Err(bad(field)), "{pages} pages, {frames} frames");
     }
 }
 
 #[test]
 fn settings_out_of_their_limits() {
-    let changes: [fn(&mut PagerConfig); 7] = [
-        |it| it.frames = 0,
-        |it| it.frames = 65_537,
-        |it| it.frames = usize::MAX,
-        |it| it.k = 0,
-        |it| it.k = 17,
-        |it| it.correlated = (1 << 62) + 1,
-        |it| it.retained = (1 << 62) + 1,
+    type Change = fn(&mut PagerConfig);
+    let changes: [(&str, Change); 7] = [
+        ("frames", |it| it.frames = 0),
+        ("frames", |it| it.frames = 65_537),
+        ("frames", |it| it.frames = usize::MAX),
+        ("k", |it| it.k = 0),
+        ("k", |it| it.k = 17),
+        ("correlated", |it| it.correlated = (1 << 62) + 1),
+        ("retained", |it| it.retained = (1 << 62) + 1),
     ];
-    for change in changes {
+    for (field, change) in changes {
         let mut config = config(100);
         change(&mut config);
-        assert_eq!(told_of(&config), Err(Error::BadSettings), "{config:?}");
+        assert_eq!(told_of(&config), Err(bad(field)), "{config:?}");
+        assert_eq!(bad(field).number(), 2);
     }
 }
 
 #[test]
 fn geometry_out_of_its_limits() {
-    for (pages, page_size) in [(0, 16), (100, 0), (100, 24), (100, 65_552), (u64::MAX, 16)] {
+    for (pages, page_size, field) in [
+        (0, 16, "pages"),
+        (100, 0, "page_size"),
+        (100, 24, "page_size"),
+        (100, 65_552, "page_size"),
+        (u64::MAX, 16, "pages"),
+    ] {
         for parts in [1, 2] {
             let config = PagerConfig::new(100, 16, 100).with_parts(parts);
             let config = config.with_pages(pages).with_page_size(page_size);
-            let told = told_of(&config);
-            let is_told = told == Err(Error::BadGeometry)
-                || (pages, parts, told) == (0, 2, Err(Error::BadSettings));
-            assert!(is_told, "{told:?} of {config:?}");
+            // Two parts are more than no pages.
+            let field = match (pages, parts) {
+                (0, 2) => "parts",
+                _ => field,
+            };
+            assert_eq!(told_of(&config), Err(bad(field)), "{config:?}");
         }
+        assert_eq!(bad(field).number(), 1);
     }
     let config = PagerConfig::new((1 << 21) + 1, 16, 2).with_parts(2);
-    assert_eq!(told_of(&config), Err(Error::BadGeometry));
+    assert_eq!(told_of(&config), Err(bad("pages")));
 }
 
 // At once, or after the time that the engine gave. The page that is pinned can be used.

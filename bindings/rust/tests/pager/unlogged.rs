@@ -166,7 +166,8 @@ fn unlogged_bytes_out_of_the_page() {
     let pager = pager(2);
     let mut page = pager.write(1).unwrap();
     let told = page.put_unlogged(SIZE - 1, &[1, 2], 5);
-    assert_eq!(told, Err(Error::OutOfPage));
+    let (offset, len) = (SIZE - 1, 2);
+    assert_eq!(told, Err(Error::OutOfPage { offset, len }));
     assert_eq!((page.bytes(), page.lsn()), (&[0; SIZE][..], 0));
     drop(page);
     assert_eq!((pager.redo_from(), pager.stats().unsaved), (None, 0));
