@@ -139,6 +139,7 @@ impl Error {
     /// Returns the number of `hojzmated.h`. Those of [`Lent`](Error::Lent),
     /// [`VersionMismatch`](Error::VersionMismatch), [`TooManyGuards`](Error::TooManyGuards),
     /// [`Deadlock`](Error::Deadlock) and [`LogLost`](Error::LogLost) are beyond those.
+    #[must_use]
     pub const fn number(self) -> u16 {
         match self {
             Error::BadSetting { field } => match field.as_bytes() {

@@ -148,6 +148,7 @@ pub enum PagerError {
 impl PagerError {
     /// Returns the refusal for this fault: 17 for a read, 19 where another page or a spoilt one was found, 18
     /// for a write-out or a sync, 79 for a log that failed, and 12 for one that is not durable so far yet.
+    #[must_use]
     pub fn refusal(&self) -> Error {
         match *self {
             PagerError::Refused(error) | PagerError::RefusedPage { error, .. } => error,

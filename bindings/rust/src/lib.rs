@@ -90,6 +90,7 @@ pub use pager::{Left, Missed, MissedAlone};
 pub use renamed::*;
 
 /// The version of the library below, as major * 10,000 + minor * 100 + patch.
+#[must_use]
 pub fn version() -> u32 {
     sys::hz_version()
 }

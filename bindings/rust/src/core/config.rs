@@ -48,6 +48,7 @@ impl Config {
     /// With K 2 and no correlated period, a page that was referenced once is evicted first, often
     /// before its log record is durable. An eighth of the frames suits a tick at each fix. An
     /// engine that ticks less often sets a shorter period.
+    #[must_use]
     pub const fn new(pages: u64, page_size: usize, frames: usize) -> Config {
         Config {
             pages,

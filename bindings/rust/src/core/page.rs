@@ -103,16 +103,19 @@ pub struct PageGuard<'pool> {
 
 impl Pass {
     /// The page that it pins.
+    #[must_use]
     pub fn page(&self) -> u64 {
         self.grant.page
     }
 
     /// The client that it was given to.
+    #[must_use]
     pub fn client(&self) -> u8 {
         self.grant.client()
     }
 
     /// Its serial number among the passes of the pool, which are numbered from 0.
+    #[must_use]
     pub fn serial(&self) -> u64 {
         self.grant.serial
     }
@@ -120,16 +123,19 @@ impl Pass {
 
 impl ReadTicket {
     /// The page to read.
+    #[must_use]
     pub fn page(&self) -> u64 {
         self.grant.page
     }
 
     /// The client that it was given to.
+    #[must_use]
     pub fn client(&self) -> u8 {
         self.grant.client()
     }
 
     /// Its serial number among the tickets of the pool, which are numbered from 0.
+    #[must_use]
     pub fn serial(&self) -> u64 {
         self.grant.serial
     }
@@ -137,22 +143,26 @@ impl ReadTicket {
 
 impl WriteTicket {
     /// The page to write out.
+    #[must_use]
     pub fn page(&self) -> u64 {
         self.grant.page
     }
 
     /// The client that it was given to.
+    #[must_use]
     pub fn client(&self) -> u8 {
         self.grant.client()
     }
 
     /// Its serial number among the tickets of the pool, which are numbered from 0.
+    #[must_use]
     pub fn serial(&self) -> u64 {
         self.grant.serial
     }
 
     /// The page LSN of the image: the greatest LSN of the writes to the page since it was read into
     /// its frame.
+    #[must_use]
     pub fn lsn(&self) -> u64 {
         self.lsn
     }
@@ -160,6 +170,7 @@ impl WriteTicket {
 
 impl PageGuard<'_> {
     /// The number of the page.
+    #[must_use]
     pub fn page(&self) -> u64 {
         self.pass.page()
     }

@@ -33,6 +33,7 @@ const CHECKED: usize = 32;
 
 impl Layout {
     /// The bytes of a slot before its page.
+    #[must_use]
     pub const fn head(self) -> usize {
         match self {
             Layout::Plain => 0,

@@ -123,6 +123,7 @@ impl PagerConfig {
     }
 
     /// The same with so many parts: it does not ask the system for the number of processors.
+    #[must_use]
     pub const fn in_parts(
         pages: u64,
         page_size: usize,

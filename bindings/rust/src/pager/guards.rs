@@ -125,6 +125,7 @@ pub struct Left<'a> {
 impl Left<'_> {
     /// Whether that is all.
     #[inline(always)]
+    #[must_use]
     pub fn is_all(&self) -> bool {
         self.part.is_left_so(self.word)
     }
@@ -159,6 +160,7 @@ impl<'a> PagePin<'a> {
     }
 
     /// The number of the page.
+    #[must_use]
     pub fn page(&self) -> u64 {
         self.0.page()
     }
@@ -182,6 +184,7 @@ impl<'a> PagePin<'a> {
 
     /// Returns the page under its shared latch, or None where that can't be had without waiting.
     #[inline]
+    #[must_use]
     pub fn try_read(&self) -> Option<PageRef<'_>> {
         let Share { part, seat } = self.0;
         let is_had = seat.try_latch(READER, 0);
@@ -205,6 +208,7 @@ impl<'a> PagePin<'a> {
 
     /// Returns the page under its exclusive latch, or None where that can't be had without waiting.
     #[inline]
+    #[must_use]
     pub fn try_write(&self) -> Option<PageMut<'_>> {
         let Share { part, seat } = self.0;
         let is_had = seat.try_latch(WRITER, 0);
@@ -285,6 +289,7 @@ impl<'a> PageRef<'a> {
     }
 
     /// The number of the page.
+    #[must_use]
     pub fn page(&self) -> u64 {
         self.0.page()
     }
@@ -292,6 +297,7 @@ impl<'a> PageRef<'a> {
     /// The page LSN: the greatest LSN of the writes to the page since it was read into its frame. It is
     /// 0 where there was none: then what [`PageIo::write_page`](crate::PageIo::write_page) stamped into
     /// the image is the newest. It takes the part's lock.
+    #[must_use]
     pub fn lsn(&self) -> u64 {
         self.0.lsn()
     }
@@ -361,17 +367,20 @@ impl<'a> PageMut<'a> {
     }
 
     /// The number of the page.
+    #[must_use]
     pub fn page(&self) -> u64 {
         self.0.page()
     }
 
     /// The page LSN, as [`PageRef::lsn`] tells it, with all that was put so far.
+    #[must_use]
     pub fn lsn(&self) -> u64 {
         self.0.lsn()
     }
 
     /// The bytes of the page, in place, with all that was put so far.
     #[inline]
+    #[must_use]
     pub fn bytes(&self) -> &[u8] {
         // SAFETY: only a `PageMut` of the page writes to it. That is this one, which `put` borrows
         // as a whole.

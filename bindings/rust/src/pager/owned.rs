@@ -102,6 +102,7 @@ impl<F: PageIo> Pager<F> {
 
 impl<F> OwnedPin<F> {
     /// The number of the page.
+    #[must_use]
     pub fn page(&self) -> u64 {
         self.0.guard.page()
     }
@@ -115,6 +116,7 @@ impl<F> OwnedPin<F> {
     }
 
     /// Returns the page under its shared latch, or None where that can't be had without waiting.
+    #[must_use]
     pub fn try_read(&self) -> Option<PageRef<'_>> {
         self.0.guard.try_read()
     }
@@ -128,6 +130,7 @@ impl<F> OwnedPin<F> {
     }
 
     /// Returns the page under its exclusive latch, or None where that can't be had without waiting.
+    #[must_use]
     pub fn try_write(&self) -> Option<PageMut<'_>> {
         self.0.guard.try_write()
     }
@@ -135,11 +138,13 @@ impl<F> OwnedPin<F> {
 
 impl<F> OwnedRef<F> {
     /// The number of the page.
+    #[must_use]
     pub fn page(&self) -> u64 {
         self.0.guard.page()
     }
 
     /// The page LSN, as [`PageRef::lsn`] tells it.
+    #[must_use]
     pub fn lsn(&self) -> u64 {
         self.0.guard.lsn()
     }
@@ -180,17 +185,20 @@ impl<F> AsRef<[u8]> for OwnedMut<F> {
 
 impl<F> OwnedMut<F> {
     /// The number of the page.
+    #[must_use]
     pub fn page(&self) -> u64 {
         self.0.guard.page()
     }
 
     /// The page LSN, as [`PageMut::lsn`] tells it.
+    #[must_use]
     pub fn lsn(&self) -> u64 {
         self.0.guard.lsn()
     }
 
     /// The bytes of the page, in place, with all that was put so far.
     #[inline]
+    #[must_use]
     pub fn bytes(&self) -> &[u8] {
         self.0.guard.bytes()
     }

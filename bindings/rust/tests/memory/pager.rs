@@ -178,7 +178,7 @@ fn dropped_pager_gives_its_memory_back() {
     let pager = pager(2);
     use_pages_of(&pager);
     assert!(BLOCKS.get() > before + 20);
-    drop(pager.into_io());
+    let _io = pager.into_io();
     assert_eq!(BLOCKS.get(), before);
 }
 
