@@ -362,7 +362,7 @@ class Library(unittest.TestCase):
         self.lies("layout.c", "unsaved", {
             "hz_core": _library.Core, "hz_config": _library.Config, "hz_grant": _library.Grant,
             "hz_fixed": _library.Fixed, "hz_stats": _library.CoreStats})
-        self.lies("layout_pager.c", "io", {
+        self.lies("layout_pager.c", "io|observer", {
             "hz_pager": _library.PagerHandle, "hz_ref": _library.Ref, "hz_pager_config": _library.PagerConfig,
             "hz_pager_fault": _library.Fault, "hz_pager_stats": _library.PagerCounts})
 
