@@ -41,10 +41,12 @@ fn count(disk: &Disk) -> u64 {
     let Ok(pager) = Pager::new(&config, disk.pages("pages", "log")) else {
         return 0;
     };
-    (1..100)
+    let last = (1..100)
         .take_while(|number| step(&pager, *number).is_ok())
-        .last()
-        .unwrap_or(0)
+        .last();
+    // What is not saved is lost, as in any crash: so the pager is not closed.
+    let _pages = pager.into_io();
+    last.unwrap_or(0)
 }
 
 fn number_at(disk: &Disk, name: &str, offset: u64) -> u64 {

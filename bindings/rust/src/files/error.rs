@@ -24,8 +24,9 @@ pub enum OpenError {
         /// Those that were asked for.
         wanted: u64,
     },
-    /// The file does not end with a whole page. So it has another page size or
-    /// [`Layout`](crate::Layout).
+    /// The file does not end with a whole page: it has another page size or [`Layout`](crate::Layout). Or its
+    /// pages are [`Numbered`](crate::Layout::Numbered), and who made it longer was killed: then
+    /// [`grown_to`](crate::FileOptions::grown_to) opens it, without the part of a page at its end.
     BadLength {
         /// The length of the file.
         bytes: u64,

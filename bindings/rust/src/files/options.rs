@@ -73,7 +73,8 @@ impl FileOptions {
 
     /// Adds pages of zeros to a file with fewer pages. They take no place on the disk until they are written
     /// ([`Layout::Numbered`] has a number in each, so each is written), and are durable after a sync. Where
-    /// the process is killed meanwhile, the file may have got some of them.
+    /// the process is killed meanwhile, the file may have got some of them, the last in part. That part is cut
+    /// off where the file is opened by `grown_to` again.
     ///
     /// A file that is opened for reading alone does not grow: it is refused as by [`pages`](Self::pages).
     pub const fn grown_to(mut self, pages: u64) -> FileOptions {

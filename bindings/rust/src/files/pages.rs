@@ -84,20 +84,43 @@ impl FilePages {
 
     /// Looks how many pages the file has, and adds pages of zeros where it has fewer than are wanted.
     pub(super) fn begin(&mut self, wanted: u64, grows: bool) -> Result<(), OpenError> {
-        let slot = self.slot();
-        let metadata = self.file.metadata();
-        let bytes = metadata
-            .map_err(|source| OpenError::NotOpened { source })?
-            .len();
-        if bytes % slot as u64 != 0 {
-            return Err(OpenError::BadLength { bytes, slot });
+        let (slot, grows) = (self.slot(), grows && !self.is_read_only);
+        let not_opened = |source| OpenError::NotOpened { source };
+        let bytes = self.file.metadata().map_err(not_opened)?.len();
+        let (pages, rest) = (bytes / slot as u64, bytes % slot as u64);
+        if rest > 0 {
+            let is_left = grows && self.is_left_by_growth(pages, rest).map_err(not_opened)?;
+            if !is_left {
+                return Err(OpenError::BadLength { bytes, slot });
+            }
+            let cut = self.file.set_len(self.place(pages));
+            cut.map_err(|source| OpenError::NotGrown { source })?;
         }
-        let pages = bytes / slot as u64;
         *self.pages.get_mut() = pages;
-        if pages < wanted && (self.is_read_only || !grows) {
+        if pages < wanted && !grows {
             return Err(OpenError::TooShort { pages, wanted });
         }
         self.grow_to(wanted)
+    }
+
+    /// Whether the file ends, behind pages with their numbers, with the beginning of the next page as
+    /// [`fill`](Self::fill) writes it: so a growth leaves it that was killed or that failed.
+    fn is_left_by_growth(&self, pages: u64, rest: u64) -> io::Result<bool> {
+        if self.layout != Layout::Numbered {
+            return Ok(false);
+        }
+        let (mut blank, mut found) = (Scratch::new(self, 1)?, Scratch::new(self, 1)?);
+        blank.fill(0);
+        self.layout.stamp(&mut blank, pages, 0);
+        let read = self.file.read_at(&mut found, self.place(pages))?;
+        if read as u64 != rest || found[..read] != blank[..read] {
+            return Ok(false);
+        }
+        let Some(last) = pages.checked_sub(1) else {
+            return Ok(true);
+        };
+        self.file.read_exact_at(&mut found, self.place(last))?;
+        Ok(found[..8] == last.to_le_bytes())
     }
 
     /// Adds pages of zeros to the file, up to so many, also while a pager has it. That has to have been made

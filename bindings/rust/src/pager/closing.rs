@@ -29,7 +29,7 @@ impl<F: PageIo> Pager<F> {
     /// # impl PageIo for Zeros {
     /// #     fn read_page(&self, _: u64, image: &mut [u8]) -> Result<(), ReadFault> { Ok(image.fill(0)) }
     /// #     fn write_page(&self, _: u64, _: &mut [u8], _: u64) -> std::io::Result<()> { Ok(()) }
-    /// #     fn make_log_durable(&self, _: u64) -> std::io::Result<()> { Ok(()) }
+    /// #     fn make_log_durable(&self, _: u64) -> Result<(), hojzmated::LogFault> { Ok(()) }
     /// #     fn sync(&self) -> std::io::Result<()> { Ok(()) }
     /// # }
     /// # fn main() -> Result<(), Box<dyn std::error::Error>> {

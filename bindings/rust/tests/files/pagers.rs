@@ -4,7 +4,7 @@ use hojzmated::{
     Device, Error, FileOptions, FilePages, Layout, Log, LogFault, OpenError, Pager, PagerConfig,
     PagerError, ReadFault,
 };
-use std::fs::{File, read};
+use std::fs::{File, read, remove_file, write};
 use std::io::{self, ErrorKind};
 use std::os::unix::fs::FileExt;
 use std::path::Path;
@@ -364,5 +364,66 @@ fn halves_behind_pointers() -> Outcome {
     let mut image = [0; SIZE];
     device.read_page(1, &mut image)?;
     assert_eq!(image[..3], *b"one");
+    Ok(())
+}
+
+// A growth writes the pages one after the other, each with its number. One that is killed leaves a file that
+// ends with a part of the next page.
+#[test]
+fn growth_goes_on_after_a_kill() -> Outcome {
+    let folder = Folder::new();
+    let path = folder.join("pages");
+    let options = FileOptions::new(SIZE).layout(Layout::Numbered);
+    let slot = 16 + SIZE;
+    for left in [1, 7, 8, 16, 17, slot - 1] {
+        for pages in [0, 3] {
+            let _ = remove_file(&path);
+            options.grown_to(pages + 1).create(&path)?;
+            let mut bytes = read(&path)?;
+            bytes.truncate(pages as usize * slot + left);
+            write(&path, &bytes)?;
+            let error = options.pages(0).open(&path).unwrap_err();
+            assert!(matches!(error, OpenError::BadLength { .. }), "{error}");
+            let error = options.grown_to(9).read_only(true).open(&path).unwrap_err();
+            assert!(matches!(error, OpenError::BadLength { .. }), "{error}");
+            assert_eq!(read(&path)?, bytes);
+            if pages > 0 {
+                assert_eq!(options.grown_to(pages).open(&path)?.pages(), pages);
+                assert_eq!(read(&path)?.len(), pages as usize * slot);
+                write(&path, &bytes)?;
+            }
+            let grown = options.grown_to(9).open(&path)?;
+            let mut image = vec![1; SIZE];
+            for page in 0..9 {
+                assert_eq!(grown.read_with_lsn(page, &mut image)?, Some(0));
+                assert_eq!(image, vec![0; SIZE]);
+            }
+        }
+    }
+    Ok(())
+}
+
+// What no growth has left stays: another byte in the part, or another number in the page before it, as a
+// file of another layout has there.
+#[test]
+fn other_ends_are_no_growth() -> Outcome {
+    let folder = Folder::new();
+    let path = folder.join("pages");
+    let options = FileOptions::new(SIZE).layout(Layout::Numbered);
+    let slot = 16 + SIZE;
+    options.grown_to(4).create(&path)?;
+    let mut whole = read(&path)?;
+    whole.truncate(3 * slot + 20);
+    for at in [2 * slot, 3 * slot, 3 * slot + 8, 3 * slot + 19] {
+        let mut bytes = whole.clone();
+        bytes[at] ^= 4;
+        write(&path, &bytes)?;
+        let error = options.grown_to(9).open(&path).unwrap_err();
+        assert!(
+            matches!(error, OpenError::BadLength { .. }),
+            "{at}: {error}"
+        );
+        assert_eq!(read(&path)?, bytes);
+    }
     Ok(())
 }
