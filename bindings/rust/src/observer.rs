@@ -13,7 +13,7 @@ use std::time::Duration;
 /// engine has none of its own. Later versions may have more.
 ///
 /// ```
-/// use hojzmated::{FileOptions, Observer, Pager};
+/// use hojzmated::{Device, FileOptions, Observer, Pager};
 /// use std::ops::Range;
 /// use std::sync::Arc;
 /// use std::sync::atomic::{AtomicU64, Ordering};
