@@ -88,7 +88,8 @@ pub trait Observer: Send + Sync {
     /// such as a page and its latch, tells of each. One that looked again and again, and did not sleep, tells nothing.
     fn wait(&self, wait: Wait, time: Duration) {}
 
-    /// The device or the log failed, or the log does not reach so far yet, after so long; or a thread of the pager was refused something, after no time.
+    /// The device or the log failed, or the log does not reach so far yet, after so long; or a thread of the pager
+    /// was refused something, after no time.
     ///
     /// Each call of the engine's functions that fails is told once, also where the pager goes on: with another victim,
     /// or in a thread of its own, which leaves the page as it is. Of pages side by side the fault names the first.
