@@ -190,7 +190,8 @@ class PagerConfig(ctypes.Structure):
     _fields_ = [("size", ctypes.c_size_t), ("pages", ctypes.c_uint64), ("page_size", ctypes.c_size_t),
                 ("frames", ctypes.c_size_t), ("parts", ctypes.c_size_t), ("correlated", ctypes.c_uint64),
                 ("retained", ctypes.c_uint64), ("pin_wait_ms", ctypes.c_uint64), ("k", ctypes.c_uint8),
-                ("tells_each_pin", ctypes.c_uint8), ("read_only", ctypes.c_uint8), ("grows", ctypes.c_uint8)]
+                ("tells_each_pin", ctypes.c_uint8), ("read_only", ctypes.c_uint8), ("grows", ctypes.c_uint8),
+                ("unused", ctypes.c_uint32)]
 
 
 class Fault(ctypes.Structure):
