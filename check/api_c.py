@@ -8,6 +8,8 @@ import runner
 from runner import TOP, Failed, LeftOut, text_of, write
 
 HEADERS = "hojzmated.h", "hojzmated_pager.h"
+# An expression in a line, whose number a program prints.
+BRACED = r"\{(.*?)\}"
 # Macros that say how a header is read, and not what it offers.
 OWN = re.compile(r"HOJZMATED\w*_H$|HZ_VERSION|HZ_MUST_CHECK")
 
@@ -64,9 +66,14 @@ def lines_of(text):
         yield f"fn {found[2]}({types_of(found[3])}) -> {plain(found[1])}"
 
 
+def found_in(line):
+    """The expressions of a line. A macro is as it stands."""
+    return [] if line.startswith("macro ") else re.findall(BRACED, line)
+
+
 def counted(lines, folder):
     """The lines with the numbers for the expressions in braces, which a program prints."""
-    expressions = [it for line in lines for it in re.findall(r"\{(.*?)\}", line)]
+    expressions = [it for line in lines for it in found_in(line)]
     write("#include <stdio.h>\n" + "".join(f'#include "{name}"\n' for name in HEADERS) + "int main(void)\n{\n"
           + "".join(f'    printf("%lld\\n", (long long)({it}));\n' for it in expressions) + "    return 0;\n}\n",
           folder, "numbers.c")
@@ -78,7 +85,7 @@ def counted(lines, folder):
         if ran.returncode:
             raise Failed(f"{' '.join(words)}: {ran.stdout[-2000:]}")
     numbers = iter(ran.stdout.split())
-    return [re.sub(r"\{.*?\}", lambda _: next(numbers), line) for line in lines]
+    return [re.sub(BRACED, lambda _: next(numbers), line) if found_in(line) else line for line in lines]
 
 
 def listed(folder):

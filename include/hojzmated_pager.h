@@ -136,11 +136,12 @@ typedef struct hz_pager_config {
                                that is put to is never written out: HZ_WRITE_FAILED with the errno EACCES */
     uint8_t grows;          /* for hz_pager_new_file, 1: a file with fewer pages than the field pages gets pages of
                                zeros, up to these. Else it is refused */
+    uint32_t unused;        /* 0: later versions may have fields here */
     const struct hz_observer *observer; /* is told what goes on. Null: nobody is. It is copied */
 } hz_pager_config;
 
 /* A config whose fields have their defaults, but for the three that have none. */
-#define HZ_PAGER_CONFIG_INIT {sizeof(hz_pager_config), 0, 0, 0, 0, 0, 0, 0, 0, 0, 0, 0, 0}
+#define HZ_PAGER_CONFIG_INIT {sizeof(hz_pager_config), 0, 0, 0, 0, 0, 0, 0, 0, 0, 0, 0, 0, 0}
 
 /* What a read callback answers where it found another page than it was asked for, or a wrong checksum. */
 #define HZ_IO_WRONG_PAGE (-1)
@@ -323,8 +324,9 @@ uint16_t hz_pager_put(const hz_ref *ref, size_t offset, const uint8_t *bytes, si
 uint16_t hz_pager_unfix(const hz_ref *ref);
 
 /* Notes that the log is durable as far as lsn. The mark never falls: one that is too far lets pages out before their
- * log records, from then on. So mark nothing after a sync that failed. Once the log is lost, as HZ_LOG_LOST tells, a
- * mark changes nothing. */
+ * log records, from then on. So mark nothing after a sync that failed, be it the engine's own or one of
+ * make_log_durable that has not returned yet: let both take one lock of the engine's. Once the log is lost, as
+ * HZ_LOG_LOST tells, a mark changes nothing. */
 uint16_t hz_pager_mark(const hz_pager *pager, uint64_t lsn);
 
 /* Writes a page out, if it is unsaved. It waits for a thread that has its exclusive latch, and ends with a write-out

@@ -33,6 +33,7 @@ LIES(hz_pager_config, k, 64, 1);
 LIES(hz_pager_config, tells_each_pin, 65, 1);
 LIES(hz_pager_config, read_only, 66, 1);
 LIES(hz_pager_config, grows, 67, 1);
+LIES(hz_pager_config, unused, 68, 4);
 LIES(hz_pager_config, observer, 72, 8);
 
 HOLDS(sizeof(hz_observer) == 72);

@@ -133,6 +133,10 @@ static void sizes(void)
     end(&pager);
     longer.config.observer = NULL;
     longer.config.size = sizeof longer, further.io.size = sizeof further;
+    longer.config.unused = 1;
+    REFUSED(HZ_BAD_SETTINGS, 0, 0, 0, 0, hz_pager_new(&longer.config, &io, &pager));
+    SAME(HZ_BAD_SETTINGS, hz_pager_new_file(&longer.config, -1, 1, &pager));
+    longer.config.unused = 0;
     SAME(HZ_DONE, hz_pager_new(&longer.config, &further.io, &pager));
     ref = fixed(&pager, 3, HZ_SHARED);
     SAME(HZ_DONE, hz_pager_unfix(&ref));

@@ -191,7 +191,7 @@ class PagerConfig(ctypes.Structure):
                 ("frames", ctypes.c_size_t), ("parts", ctypes.c_size_t), ("correlated", ctypes.c_uint64),
                 ("retained", ctypes.c_uint64), ("pin_wait_ms", ctypes.c_uint64), ("k", ctypes.c_uint8),
                 ("tells_each_pin", ctypes.c_uint8), ("read_only", ctypes.c_uint8), ("grows", ctypes.c_uint8),
-                ("observer", ctypes.c_void_p)]
+                ("unused", ctypes.c_uint32), ("observer", ctypes.c_void_p)]
 
 
 class Fault(ctypes.Structure):

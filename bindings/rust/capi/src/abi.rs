@@ -31,6 +31,7 @@ pub struct hz_pager_config {
     pub tells_each_pin: u8,
     pub read_only: u8,
     pub grows: u8,
+    pub unused: u32,
     pub observer: *const hz_observer,
 }
 

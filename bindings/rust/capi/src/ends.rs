@@ -53,6 +53,7 @@ fn make_pager(handle: Handle, round: u64) {
         tells_each_pin: 0,
         read_only: 0,
         grows: 0,
+        unused: 0,
         observer: ptr::null(),
     };
     let io = hz_io {

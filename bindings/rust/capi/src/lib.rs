@@ -187,6 +187,19 @@ impl hz_pager_config {
     }
 }
 
+/// Returns the settings of the caller.
+///
+/// # Safety
+/// That of [`sized::given`].
+unsafe fn settings_of(config: *const hz_pager_config) -> Outcome<hz_pager_config> {
+    // SAFETY: as above.
+    let config = unsafe { sized::given(config) }?;
+    match config.unused {
+        0 => Ok(config),
+        _ => Err(refusal(HZ_BAD_SETTINGS)),
+    }
+}
+
 /// Makes a pager in a handle.
 fn make(config: &PagerConfig, device: Device, handle: Place<hz_pager>) -> Outcome {
     let mut place = Vec::new();
@@ -227,7 +240,7 @@ pub unsafe extern "C" fn hz_pager_new(
             return Err(refusal(HZ_NULL));
         }
         // SAFETY: as the header says.
-        let (config, io) = unsafe { (sized::given(config)?, sized::given(io)?) };
+        let (config, io) = unsafe { (settings_of(config)?, sized::given(io)?) };
         // SAFETY: as the header says.
         let observer = unsafe { config.observer() }?;
         // SAFETY: the device has the observer, and the pager the device.
@@ -251,7 +264,7 @@ pub unsafe extern "C" fn hz_pager_new_file(
             return Err(refusal(HZ_NULL));
         }
         // SAFETY: as the header says.
-        let (config, handle) = unsafe { (sized::given(config)?, empty(pager)?) };
+        let (config, handle) = unsafe { (settings_of(config)?, empty(pager)?) };
         // SAFETY: a file of the descriptor is open till after `hz_pager_free`.
         let file = unsafe { PageFile::new(fd, format, &config, config.observer()?) }?;
         let pages = or(config.pages, file.pages());

@@ -16,7 +16,8 @@ const MOST: usize = 4096;
 /// A struct that begins with its size in bytes.
 ///
 /// # Safety
-/// Its first field is that size, and zeros are a value of it.
+/// Its first field is that size, and zeros are a value of it. It has no bytes between its fields or after them: a
+/// later field that came to lie there would not change the size.
 pub unsafe trait Begins {
     /// The size in the first version that had it.
     const FIRST: usize;

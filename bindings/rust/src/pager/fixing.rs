@@ -253,8 +253,9 @@ impl<F> Pager<F> {
     /// Notes that the log is durable up to this LSN, as after the engine made it durable itself. After the log
     /// [failed](crate::LogFault::Lost) it notes nothing.
     ///
-    /// An engine that syncs its log by itself marks nothing after a sync of its own that failed: the pager does not
-    /// know of that until [`make_log_durable`](PageIo::make_log_durable) tells it.
+    /// An engine that syncs its log by itself marks nothing after a sync that failed, be it its own or one of
+    /// [`make_log_durable`](PageIo::make_log_durable): the pager does not know of that until `make_log_durable` has
+    /// returned, and a mark counts at once. So all syncs of the log take one lock of the engine's then.
     pub fn mark(&self, lsn: u64) {
         self.log.mark(lsn);
     }

@@ -1,4 +1,4 @@
-//! How a call finds a frame for its page: `fix` and `go_on` of `pager.rs`, and the line.
+//! How a call finds a frame for its page: `fix` and `go_on` of `fixing.rs`, and the line.
 use super::pool::Asked;
 use super::steps::{Next, Steps};
 use super::{At, Kind, NONE, Thread, Weakness, Work};
