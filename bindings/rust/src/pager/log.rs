@@ -107,7 +107,8 @@ impl Log {
             match self.make_durable(io, pager, wanted) {
                 Ok(()) => {}
                 Err(LogFault::Lost(source)) => return Err(PagerError::Log { lsn: own, source }),
-                Err(LogFault::NotYet) if wanted == own => {
+                // The engine may have marked it meanwhile.
+                Err(LogFault::NotYet) if wanted == own && self.durable() < own => {
                     return Err(PagerError::LogNotYet { lsn: own });
                 }
                 Err(LogFault::NotYet) => is_alone = true,
