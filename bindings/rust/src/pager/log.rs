@@ -113,6 +113,8 @@ impl Log {
             drop(turn);
             match self.make_durable(io, watch, wanted) {
                 Err(PagerError::LogNotYet { .. }) if wanted != own => is_alone = true,
+                // The engine may have marked it meanwhile.
+                Err(PagerError::LogNotYet { .. }) if self.durable() >= own => {}
                 Err(PagerError::Log { source, .. }) => {
                     return Err(PagerError::Log { lsn: own, source });
                 }

@@ -285,7 +285,8 @@ impl<F: PageIo> Pager<F> {
     /// Writes these pages out, which are in the order of the file.
     fn flush_all(&self, pages: &[UnsavedPage]) -> Result<(), PagerError> {
         let mut not_reached = NotReached::default();
-        let mut done = self.reach_for_all(pages, &mut not_reached);
+        let reached = self.reach_for_all(pages, &mut not_reached);
+        let mut done = Ok(());
         let most = self.most_in_a_row();
         let mut rest = pages;
         while let Some(first) = rest.first() {
@@ -298,7 +299,11 @@ impl<F: PageIo> Pager<F> {
             rest = &rest[count..];
             done = done.and(flushed);
         }
-        done
+        match (reached, done) {
+            // All went out: the log had come so far by then.
+            (Err(PagerError::LogNotYet { .. }), Ok(())) => Ok(()),
+            (reached, done) => reached.and(done),
+        }
     }
 
     /// Writes out the first of these pages side by side, and those after it that can be had at once. It

@@ -279,3 +279,35 @@ fn sync_beside_one_that_fails() {
     pager.io().is_next(Fate::Well);
     assert!(pager.checkpoint().is_err());
 }
+
+// While the log answers that it does not reach so far, the engine makes it durable, and marks that.
+#[test]
+fn mark_beside_an_answer_of_not_yet() {
+    let calls: [fn(&Pager<Device>) -> Result<(), PagerError>; 2] =
+        [|it| it.flush(1), |it| it.checkpoint().map(drop)];
+    // The log is asked for page 1, or in a checkpoint of both pages for page 2 at last.
+    for (call, at) in calls.into_iter().zip([9, 5]) {
+        let pager = pager(4);
+        put(&pager, 1, 1, 9);
+        put(&pager, 2, 2, 5);
+        let gate = Arc::new(Gate::default());
+        let at_log = Arc::clone(&gate);
+        pager.io().ends_as(move |asked| match asked {
+            Asked::Log(lsn) => {
+                if lsn == at {
+                    at_log.pass();
+                }
+                Err(not_yet())
+            }
+            _ => Ok(()),
+        });
+        thread::scope(|threads| {
+            let called = threads.spawn(|| call(&pager));
+            gate.wait_for(1);
+            pager.mark(9);
+            gate.open();
+            called.join().unwrap().unwrap();
+        });
+        assert!(pager.io().asked().contains(&Asked::Write(1, 1, 9)));
+    }
+}
