@@ -283,8 +283,8 @@ fn sync_beside_one_that_fails() {
 // While the log answers that it does not reach so far, the engine makes it durable, and marks that.
 #[test]
 fn mark_beside_an_answer_of_not_yet() {
-    let calls: [fn(&Pager<Device>) -> Result<(), PagerError>; 2] =
-        [|it| it.flush(1), |it| it.checkpoint().map(drop)];
+    type Call = fn(&Pager<Device>) -> Result<(), PagerError>;
+    let calls: [Call; 2] = [|it| it.flush(1), |it| it.checkpoint().map(drop)];
     // The log is asked for page 1, or in a checkpoint of both pages for page 2 at last.
     for (call, at) in calls.into_iter().zip([9, 5]) {
         let pager = pager(4);
