@@ -10,12 +10,14 @@ ghost use Rattle.bp_words.specs.Latch.{Latch, latch_of, IsAwaited, Step, Way, He
 /// Each change of the word, but by those that wait, is such a step: a thread comes, or its share goes. These are all that
 /// the other functions of the word give.
 pub fn each_change_is_a_step()
-    ensures reads { (now : ℕ) (q : Waiters) (f : Fields) (calls pins joins : ℕ) → Step now (latch_of q f calls)
-        (latch_of q (record f { readers = f.readers + 1; pins = pins; joins = joins }) calls) }
-    ensures writes { (now : ℕ) (q : Waiters) (f : Fields) (calls pins joins : ℕ) → IsFree 1099511627776 f →
+    ensures reads { (now : ℕ) (q : Waiters) (f : Fields) (calls pins joins : ℕ) →
         Step now (latch_of q f calls)
+        (latch_of q (record f { readers = f.readers + 1; pins = pins; joins = joins }) calls) }
+    ensures writes { (now : ℕ) (q : Waiters) (f : Fields) (calls pins joins : ℕ) →
+        IsFree 1099511627776 f → Step now (latch_of q f calls)
         (latch_of q (record f { writers = 1; pins = pins; joins = joins }) calls) }
-    ensures pins { (now : ℕ) (q : Waiters) (f : Fields) (calls pins out stays joins : ℕ) → Step now (latch_of q f calls)
+    ensures pins { (now : ℕ) (q : Waiters) (f : Fields) (calls pins out stays joins : ℕ) →
+        Step now (latch_of q f calls)
         (latch_of q (record f { pins = pins; out = out; stays = stays; joins = joins }) calls) }
     ensures leaves { (now : ℕ) (q : Waiters) (f : Fields) (calls readers writers pins : ℕ) →
         readers ≤ f.readers → writers ≤ f.writers →
@@ -29,7 +31,8 @@ pub fn each_change_is_a_step()
 /// thread, and on each way of such steps.
 pub fn no_hand_over_is_lost()
     ensures first { (l : Latch) → all_of l.waiters ≡ 0 → l.waiters.is_awake ≡ false
-        → l.waiters.let_in ≤ l.waiters.writers → l.word.queued ≡ 0 → l.word.closed ≡ 0 → Heard l }
+        → l.waiters.let_in ≤ l.waiters.writers → l.word.queued ≡ 0 → l.word.closed ≡ 0
+        → Heard l }
     ensures step { (now : ℕ) (l m : Latch) → Step now l m → Heard l → Heard m }
     ensures way { (from : ℕ) (l m : Latch) → Way from l m → Heard l → Heard m }
 {}
@@ -40,29 +43,35 @@ pub fn no_hand_over_is_lost()
 pub fn the_first_is_let_in()
     ensures hands_over { (now : ℕ) (q then : Waiters) (f word : Fields) (place : Option Place) →
         HandsOver now q f then word place → ¬ (IsLatched f) → 0 < all_of q →
-        ((IsLetIn (Readers q.turns) then) × (word.readers ≡ f.readers + readers_of q) × (readers_of then ≡ 0))
+        ((IsLetIn (Readers q.turns) then) × (word.readers ≡ f.readers + readers_of q)
+        × (readers_of then ≡ 0))
         ⊎ ((IsLetIn (Writer q.let_in) then) × (word.writers ≡ 1))
         ⊎ (WriterIsEarly now q × (then.is_awake ≡ true) × (word.closed ≡ 0)) }
     ensures looks { (now : ℕ) (q then : Waiters) (f word : Fields) →
-        Looks now q.let_in q f then word → q.is_awake ≡ true → q.first ≡ 0 → ¬ (IsLatched f) →
+        Looks now q.let_in q f then word → q.is_awake ≡ true → q.first ≡ 0 →
+        ¬ (IsLatched f) →
         (IsLetIn (Writer q.let_in) then) × (word.writers ≡ 1) }
 {}
 
 /// Who is let in by another is woken: it sleeps at the place that the hand-over names. So is a writer that is to look.
 /// A writer that looks lets nobody in but itself.
 pub fn who_is_let_in_is_woken()
-    ensures hands_over { (now : ℕ) (q then : Waiters) (f word : Fields) (place : Option Place) (sleeper : Place) →
-        HandsOver now q f then word place → ¬ (IsLetIn sleeper q) → IsLetIn sleeper then → place ≡ Some sleeper }
+    ensures hands_over { (now : ℕ) (q then : Waiters) (f word : Fields) (place : Option Place)
+        (sleeper : Place) → HandsOver now q f then word place →
+        ¬ (IsLetIn sleeper q) → IsLetIn sleeper then → place ≡ Some sleeper }
     ensures to_look { (now : ℕ) (q then : Waiters) (f word : Fields) (place : Option Place) →
-        HandsOver now q f then word place → q.is_awake ≡ false → then.is_awake ≡ true → place ≡ Some (Writer q.let_in) }
+        HandsOver now q f then word place → q.is_awake ≡ false → then.is_awake ≡ true →
+        place ≡ Some (Writer q.let_in) }
     ensures looks { (now ticket : ℕ) (q then : Waiters) (f word : Fields) (sleeper : Place) →
-        Looks now ticket q f then word → ¬ (IsLetIn sleeper q) → IsLetIn sleeper then → sleeper ≡ Writer ticket }
+        Looks now ticket q f then word → ¬ (IsLetIn sleeper q) → IsLetIn sleeper then →
+        sleeper ≡ Writer ticket }
 {}
 
 /// No reader is skipped: while it waits who comes finds the word closed, and one writer gets the latch at most. None
 /// does where a writer had it as the reader came, or has got it since.
 pub fn a_reader_waits_for_one_writer()
-    ensures { (from : ℕ) (l m : Latch) → Heard l → Way from l m → 0 < readers_of l.waiters →
+    ensures { (from : ℕ) (l m : Latch) → Heard l → Way from l m →
+        0 < readers_of l.waiters →
         m.waiters.turns ≡ l.waiters.turns →
         (m.word.closed ≡ 1) × (m.waiters.let_in ≤ l.waiters.let_in + 1)
         × (0 < l.waiters.first → m.waiters.let_in ≡ l.waiters.let_in) }
@@ -75,7 +84,8 @@ pub fn nobody_goes_ahead_of_a_writer_that_is_due()
     ensures closes { (now : ℕ) (l m : Latch) (place : Option Place) → Heard l →
         HandsOver now l.waiters l.word m.waiters m.word place → 0 < writers_of l.waiters →
         IsDue now l.waiters → m.waiters.let_in ≡ l.waiters.let_in → m.word.closed ≡ 1 }
-    ensures stays { (from : ℕ) (l m : Latch) → Heard l → Way from l m → 0 < writers_of l.waiters →
+    ensures stays { (from : ℕ) (l m : Latch) → Heard l → Way from l m →
+        0 < writers_of l.waiters →
         IsDue from l.waiters → l.word.closed ≡ 1 → m.waiters.let_in ≡ l.waiters.let_in →
         (m.word.closed ≡ 1) × (m.waiters.turns ≤ l.waiters.turns + 1)
         × (l.word.writers + l.waiters.first ≡ 0 → m.waiters.turns ≡ l.waiters.turns) }

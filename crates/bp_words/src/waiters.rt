@@ -133,7 +133,8 @@ impl Waiters {
     pub(super) fn handed_over(self, word: Word, now: u64) -> Change
         requires readers { (fields word.0).readers + self.first + self.second < 1048576 }
         requires turns { self.turns < 18446744073709551615 }
-        ensures { HandsOver now self (fields word.0) result.waiters (fields result.word) result.place }
+        ensures { HandsOver now self (fields word.0) result.waiters (fields result.word)
+            result.place }
     {
         if self.is_empty() {
             return self.with(word.0, None);
